@@ -1,0 +1,2 @@
+pub mod Integers
+mod Groups

@@ -1,0 +1,67 @@
+ghost use mathlib.Core.Path.{_≡_};
+ghost use Rattle.codec.specs.Refusals.{numberOf};
+
+// Why an operation, a calculation, a sheet or a nest is refused: document 01's table, in its order.
+pub enum Refusal {
+    // 1: a number is cut off, too long or not shortest
+    BadNumber,
+    // 2: unknown operation, a field out of range, bytes after run or after a nest
+    OutOfRange,
+    // 3: header word breaks the fixed bits
+    FixedBits,
+    // 4: m or inds set
+    NotCarried,
+    // 5: register in the wrong state
+    WrongState,
+    // 6: an eighth dimension or ninth modifier
+    TooMany,
+    // 7: modifier with no dimension yet or target not below its owner; end with no dimension; coupled dimension missing
+    Misplaced,
+    // 8: low or high rule
+    LowHigh,
+    // 9: product rule
+    Product,
+    // 10: load stream as destination, store stream as source
+    WrongKind,
+    // 11: finished register in a calculation
+    StreamEnded,
+    // 12: widths differ
+    Widths,
+    // 13: lanes differ, or exceed the store chunk
+    LaneCounts,
+    // 14: element outside memory
+    Outside,
+    // 15: vector length or memory length not allowed
+    Lengths,
+    // 16: loop register is no open or finished load stream, or no calculation names it as a source
+    LoopRegister,
+    // 17: no room for the translated sheet
+    NoRoom,
+}
+
+impl Refusal {
+    // The refusal's number in document 01's table.
+    pub fn number(self) -> u64
+        ensures { λ r. ⌜ r ≡ numberOf self ⌝ }
+    {
+        match self {
+            Refusal::BadNumber => 1,
+            Refusal::OutOfRange => 2,
+            Refusal::FixedBits => 3,
+            Refusal::NotCarried => 4,
+            Refusal::WrongState => 5,
+            Refusal::TooMany => 6,
+            Refusal::Misplaced => 7,
+            Refusal::LowHigh => 8,
+            Refusal::Product => 9,
+            Refusal::WrongKind => 10,
+            Refusal::StreamEnded => 11,
+            Refusal::Widths => 12,
+            Refusal::LaneCounts => 13,
+            Refusal::Outside => 14,
+            Refusal::Lengths => 15,
+            Refusal::LoopRegister => 16,
+            Refusal::NoRoom => 17,
+        }
+    }
+}
