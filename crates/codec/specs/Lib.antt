@@ -1,3 +1,5 @@
 pub mod Refusals
 pub mod Numbers
 pub mod NumberLaws
+pub mod Headers
+pub mod HeaderLaws
