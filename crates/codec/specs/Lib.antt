@@ -3,3 +3,4 @@ pub mod Numbers
 pub mod NumberLaws
 pub mod Headers
 pub mod HeaderLaws
+pub mod Operations
