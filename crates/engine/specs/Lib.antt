@@ -1,0 +1,9 @@
+pub mod Loops
+pub mod Chunks
+pub mod Rules
+pub mod Addresses
+pub mod Checks
+pub mod Registers
+pub mod Configure
+pub mod Questions
+pub mod Bench

@@ -1,0 +1,4 @@
+// The stream engine: registers, the loops of their streams, chunks and flags, calculations, and the run of a sheet.
+pub mod check;
+pub mod register;
+pub mod stream;

@@ -1,0 +1,28 @@
+// The 32 vector registers and their streams.
+use codec::header::Kind;
+use crate::stream::Pattern;
+
+pub enum State {
+    Plain,
+    Configuring,
+    Open,
+    Finished,
+}
+
+// A vector register: its state, its content (width, valid lanes, bytes), and its stream: kind, descriptors, how many
+// elements have moved, the index of the next one, and the number that gives all flags.
+pub struct Register {
+    pub state: State,
+    pub width: u64,
+    pub valid: u64,
+    pub lanes: [u8; 64],
+    pub kind: Kind,
+    pub pattern: Pattern,
+    pub moved: u64,
+    pub index: [u64; 7],
+    pub height: u64,
+}
+
+pub struct Machine {
+    pub registers: [Register; 32],
+}
