@@ -65,38 +65,77 @@ endChecks r =
 -- "to being configured, with the header's width, no valid lanes and all bytes zero"
 abbrev pub openedPattern : Header → Bytes → Pattern
 openedPattern h base = record {
-    shape = record { dims = 0; sizes = noShape .sizes; mods = 0; modifiers = noShape .modifiers; coupling = h .coupling };
-    base = base; offsets = noPattern .offsets; strides = noPattern .strides }
+  shape = record { dims = 0; sizes = noShape .sizes; mods = 0; modifiers = noShape .modifiers; coupling = h .coupling };
+  base = base;
+  offsets = noPattern .offsets;
+  strides = noPattern .strides;
+}
 
 abbrev pub opened : Header → Bytes → Register
 opened h base = record {
-    state = Configuring; width = bytesOf (h .width); valid = 0; lanes = fresh .lanes; kind = h .kind; pattern = openedPattern h base; moved = 0;
-    index = fresh .index; height = 0 }
+  state = Configuring;
+  width = bytesOf (h .width);
+  valid = 0;
+  lanes = fresh .lanes;
+  kind = h .kind;
+  pattern = openedPattern h base;
+  moved = 0;
+  index = fresh .index;
+  height = 0;
+}
 
 -- a register with another pattern
 abbrev pub patterned : Pattern → Register → Register
 patterned p r = record {
-    state = r .state; width = r .width; valid = r .valid; lanes = r .lanes; kind = r .kind; pattern = p; moved = r .moved; index = r .index; height = r .height }
+  state = r .state;
+  width = r .width;
+  valid = r .valid;
+  lanes = r .lanes;
+  kind = r .kind;
+  pattern = p;
+  moved = r .moved;
+  index = r .index;
+  height = r .height;
+}
 
 -- "Innermost first; the first is dimension 1": one dimension more
 abbrev pub dimensioned : Dimension → Pattern → Pattern
 dimensioned d p = record {
-    shape = record {
-        dims = p .shape .dims + 1; sizes = set (p .shape .sizes) (p .shape .dims) (d .size); mods = p .shape .mods;
-        modifiers = p .shape .modifiers; coupling = p .shape .coupling };
-    base = p .base; offsets = set (p .offsets) (p .shape .dims) (d .offset); strides = set (p .strides) (p .shape .dims) (d .stride) }
+  shape = record {
+    dims = p .shape .dims + 1;
+    sizes = set (p .shape .sizes) (p .shape .dims) (d .size);
+    mods = p .shape .mods;
+    modifiers = p .shape .modifiers;
+    coupling = p .shape .coupling;
+  };
+  base = p .base;
+  offsets = set (p .offsets) (p .shape .dims) (d .offset);
+  strides = set (p .strides) (p .shape .dims) (d .stride);
+}
 
 -- "It belongs to the dimension added last"
 abbrev pub owned : given.Modifier → Shape → Modifier
 owned m s = record {
-    owner = s .dims - 1; target = m .target; parameter = m .parameter; behaviour = m .behaviour; displacement = m .displacement }
+  owner = s .dims - 1;
+  target = m .target;
+  parameter = m .parameter;
+  behaviour = m .behaviour;
+  displacement = m .displacement;
+}
 
 abbrev pub modified : given.Modifier → Pattern → Pattern
 modified m p = record {
-    shape = record {
-        dims = p .shape .dims; sizes = p .shape .sizes; mods = p .shape .mods + 1;
-        modifiers = set (p .shape .modifiers) (p .shape .mods) (owned m (p .shape)); coupling = p .shape .coupling };
-    base = p .base; offsets = p .offsets; strides = p .strides }
+  shape = record {
+    dims = p .shape .dims;
+    sizes = p .shape .sizes;
+    mods = p .shape .mods + 1;
+    modifiers = set (p .shape .modifiers) (p .shape .mods) (owned m (p .shape));
+    coupling = p .shape .coupling;
+  };
+  base = p .base;
+  offsets = p .offsets;
+  strides = p .strides;
+}
 
 -- "End opens it, or finishes it at once if it has no elements": nothing has moved
 abbrev pub ended : Register → Register

@@ -6,4 +6,5 @@ pub mod Checks
 pub mod Registers
 pub mod Configure
 pub mod Questions
+pub mod Good
 pub mod Bench

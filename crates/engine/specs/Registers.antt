@@ -68,14 +68,30 @@ noPattern = record { shape = noShape; base = noBytes; offsets = replicate 7 noBy
 -- "A fresh one is plain, width 1, no valid lanes, all bytes zero"
 abbrev pub fresh : Register
 fresh = record {
-    state = Plain; width = 1; valid = 0; lanes = replicate 64 0; kind = Load; pattern = noPattern; moved = 0; index = replicate 7 0; height = 0 }
+  state = Plain;
+  width = 1;
+  valid = 0;
+  lanes = replicate 64 0;
+  kind = Load;
+  pattern = noPattern;
+  moved = 0;
+  index = replicate 7 0;
+  height = 0;
+}
 
 -- what `getD` gives past the 32 registers; no register is such
 abbrev pub noRegister : Register
 noRegister = record {
-    state = Plain; width = 0; valid = 0; lanes = []; kind = Load;
-    pattern = record { shape = record { dims = 0; sizes = []; mods = 0; modifiers = []; coupling = Uncoupled }; base = noBytes; offsets = []; strides = [] };
-    moved = 0; index = []; height = 0 }
+  state = Plain;
+  width = 0;
+  valid = 0;
+  lanes = [];
+  kind = Load;
+  pattern = record { shape = record { dims = 0; sizes = []; mods = 0; modifiers = []; coupling = Uncoupled }; base = noBytes; offsets = []; strides = [] };
+  moved = 0;
+  index = [];
+  height = 0;
+}
 
 -- a register's shape
 abbrev pub shapeOf : Register → Shape
@@ -100,7 +116,16 @@ stateAfter s n = cond (leb (length (elements s)) n) Finished Open
 -- the state, how many elements have moved, the next one's index and the height of the flags, set; all else as it was
 abbrev pub standing : State → ℕ → List ℕ → ℕ → Register → Register
 standing k n v h r = record {
-    state = k; width = r .width; valid = r .valid; lanes = r .lanes; kind = r .kind; pattern = r .pattern; moved = n; index = v; height = h }
+  state = k;
+  width = r .width;
+  valid = r .valid;
+  lanes = r .lanes;
+  kind = r .kind;
+  pattern = r .pattern;
+  moved = n;
+  index = v;
+  height = h;
+}
 
 -- after n elements in all
 abbrev pub movedTo : ℕ → Register → Register

@@ -1,6 +1,6 @@
 // The 32 vector registers and their streams.
-use codec::header::Kind;
 use crate::stream::Pattern;
+use codec::header::Kind;
 
 pub enum State {
     Plain,

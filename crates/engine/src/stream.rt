@@ -1,7 +1,9 @@
 // A stream's descriptors.
-use codec::amounts::{Bytes, Elements};
+use codec::amounts::Bytes;
+use codec::amounts::Elements;
 use codec::header::Coupling;
-use codec::operation::{Behaviour, Parameter};
+use codec::operation::Behaviour;
+use codec::operation::Parameter;
 
 // A modifier. Dimensions are counted from 0 here: the target is the sheet's field, the owner the place of its dimension.
 pub struct Modifier {
