@@ -7,4 +7,6 @@ pub mod Registers
 pub mod Configure
 pub mod Questions
 pub mod Good
+pub mod Walk
+pub mod WalkLaws
 pub mod Bench
