@@ -1,4 +1,5 @@
 // The stream engine: registers, the loops of their streams, chunks and flags, calculations, and the run of a sheet.
 pub mod check;
+pub mod configure;
 pub mod register;
 pub mod stream;
