@@ -40,4 +40,3 @@ module _ (size : ℕ → List ℕ → ℕ) (n : ℕ) where
 
   abbrev pub costAt : ℕ → List ℕ → ℕ
   costAt d v = cost size (n - suc d) d (getD v d 0) (drop (suc d) v)
-

@@ -267,7 +267,7 @@ standing s d e h k q =
     let z : List ℕ = replicate (7 - suc d) 0 in
     let vs : List (List ℕ) = map (λ v. v ++ z) (elements s) in
     let st : vs ≡ at (sizeAt s) (suc d) d (replicate 7 0) =
-        ap (λ n. map (λ v. v ++ z) (loops (sizeAt s) 0 n [])) e ∙ loops-padded (sizeAt s) z (size-pad s (7 - suc d)) (suc d) [] ∙ start (sizeAt s) d h in
+    ap (λ n. map (λ v. v ++ z) (loops (sizeAt s) 0 n [])) e ∙ loops-padded (sizeAt s) z (size-pad s (7 - suc d)) (suc d) [] ∙ start (sizeAt s) d h in
     let so : Sought (sizeAt s) (suc d) vs = moved-to (sizeAt s) (suc d) _ _ st (seek (sizeAt s) (suc d) (costAt (sizeAt s) (suc d) d (replicate 7 0)) d (replicate 7 0) (omega arith) h refl (omega arith)) in
     let f : From (sizeAt s) (suc d) vs k = position (sizeAt s) (suc d) (omega arith) h k vs so (subst (λ n. k < n) (sym (length-map (elements s) (λ v. v ++ z))) q) in
     let v : List ℕ = getD (elements s) k [] in

@@ -1,11 +1,18 @@
 // Open, dimension and modifier: their checks in document 01's order, and what they make of a register.
-use codec::amounts::Bytes;
-use codec::header::{Coupling, Header};
-use codec::operation::{Dimension, Modifier};
-use codec::refusal::Refusal;
 use crate::check::Why;
-use crate::register::{Register, State, fresh, is_configuring, is_open, no_pattern};
+use crate::register::Register;
+use crate::register::State;
+use crate::register::fresh;
+use crate::register::is_configuring;
+use crate::register::is_open;
+use crate::register::no_pattern;
 use crate::stream;
+use codec::amounts::Bytes;
+use codec::header::Coupling;
+use codec::header::Header;
+use codec::operation::Dimension;
+use codec::operation::Modifier;
+use codec::refusal::Refusal;
 ghost use mathlib.Core.Path.{_≡_};
 ghost use Prim.Native.Nat.{_<_, _≤_, _+_};
 ghost use lib.ListN.{length};

@@ -1,5 +1,6 @@
 // The stream engine: registers, the loops of their streams, chunks and flags, calculations, and the run of a sheet.
 pub mod check;
 pub mod configure;
+pub mod question;
 pub mod register;
 pub mod stream;

@@ -1,8 +1,13 @@
 // The 32 vector registers and their streams.
-use codec::amounts::{Bytes, Elements};
-use codec::header::{Coupling, Kind};
-use codec::operation::{Behaviour, Parameter};
-use crate::stream::{Modifier, Pattern, Shape};
+use crate::stream::Modifier;
+use crate::stream::Pattern;
+use crate::stream::Shape;
+use codec::amounts::Bytes;
+use codec::amounts::Elements;
+use codec::header::Coupling;
+use codec::header::Kind;
+use codec::operation::Behaviour;
+use codec::operation::Parameter;
 ghost use mathlib.Core.Path.{_≡_};
 ghost use Rattle.engine.specs.Registers.{isConfiguring, isOpen, isFinished, isLoad, noShape, noPattern, fresh, freshMachine};
 
