@@ -9,4 +9,5 @@ pub mod Questions
 pub mod Good
 pub mod Walk
 pub mod WalkLaws
+pub mod IndexLaws
 pub mod Bench

@@ -224,27 +224,27 @@ loops-padded size z h (suc n) outer =
     map-span (λ v. v ++ z) (λ k. loops size 0 n (k ∷ outer)) (λ k. loops size 0 n (k ∷ (outer ++ z))) 0 (size (0 + n) outer) (λ k. loops-padded size z h n (k ∷ outer))
     ∙ ap (span (λ k. loops size 0 n (k ∷ (outer ++ z))) 0) (sym (h (0 + n) outer))
 
-getD-zeros : (n i : ℕ) → _≡_ {A = ℕ} (getD (replicate n 0) i 0) 0
+pub getD-zeros : (n i : ℕ) → _≡_ {A = ℕ} (getD (replicate n 0) i 0) 0
 getD-zeros zero i = refl
 getD-zeros (suc n) zero = refl
 getD-zeros (suc n) (suc i) = getD-zeros n i
 
-getD-pad : (xs : List ℕ) (n i : ℕ) → getD (xs ++ replicate n 0) i 0 ≡ getD xs i 0
+pub getD-pad : (xs : List ℕ) (n i : ℕ) → getD (xs ++ replicate n 0) i 0 ≡ getD xs i 0
 getD-pad [] n i = getD-zeros n i
 getD-pad (x ∷ xs) n zero = refl
 getD-pad (x ∷ xs) n (suc i) = getD-pad xs n i
 
-added-pad : (q : Parameter) (d : ℕ) (outer : List ℕ) (n : ℕ) (ms : List Modifier) → added q d (outer ++ replicate n 0) ms ≡ added q d outer ms
+pub added-pad : (q : Parameter) (d : ℕ) (outer : List ℕ) (n : ℕ) (ms : List Modifier) → added q d (outer ++ replicate n 0) ms ≡ added q d outer ms
 unfolding added
 added-pad q d outer n [] = refl
 added-pad q d outer n (m ∷ ms) =
     ap₂ _+ℤ_ (ap (λ k. cond (sameParameter (m .parameter) q && eqb (m .target) d) (reach m k) (pos 0)) (getD-pad outer n (m .owner - suc d))) (added-pad q d outer n ms)
 
-size-pad : (s : Shape) (n d : ℕ) (outer : List ℕ) → sizeAt s d (outer ++ replicate n 0) ≡ sizeAt s d outer
+pub size-pad : (s : Shape) (n d : ℕ) (outer : List ℕ) → sizeAt s d (outer ++ replicate n 0) ≡ sizeAt s d outer
 unfolding sizeAt
 size-pad s n d outer = ap (λ y. natural (pos (getD (s .sizes) d 0) +ℤ y)) (added-pad Size d outer n (modifiersOf s))
 
-getD-map : {A B : Type 0} (f : A → B) (l : List A) (k : ℕ) (z : A) (y : B) → k < length l → getD (map f l) k y ≡ f (getD l k z)
+pub getD-map : {A B : Type 0} (f : A → B) (l : List A) (k : ℕ) (z : A) (y : B) → k < length l → getD (map f l) k y ≡ f (getD l k z)
 getD-map f [] k z y h = absurd (omega arith)
 getD-map f (x ∷ l) zero z y h = refl
 getD-map f (x ∷ l) (suc k) z y h = getD-map f l k z y (omega arith)
@@ -254,7 +254,7 @@ take-zeros zero n h = refl
 take-zeros (suc k) zero h = absurd (omega arith)
 take-zeros (suc k) (suc n) h = ap (λ l. 0 ∷ l) (take-zeros k n (omega arith))
 
-index-pad : (v : List ℕ) (d : ℕ) → length v ≡ d → d ≤ 7 → indexOf v ≡ v ++ replicate (7 - d) 0
+pub index-pad : (v : List ℕ) (d : ℕ) → length v ≡ d → d ≤ 7 → indexOf v ≡ v ++ replicate (7 - d) 0
 index-pad v d e h =
     let z : 7 ≡ length v + (7 - d) = omega arith in
     ap (λ k. take k (v ++ replicate 7 0)) z ∙ take-append-add v (replicate 7 0) (7 - d) ∙ ap (λ l. v ++ l) (take-zeros (7 - d) 7 (omega arith))
