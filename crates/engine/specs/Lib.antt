@@ -6,6 +6,11 @@ pub mod Checks
 pub mod Registers
 pub mod Configure
 pub mod Questions
+pub mod Memory
+pub mod Lanes
+pub mod Calculate
+pub mod Run
+pub mod Sheets
 pub mod Good
 pub mod Walk
 pub mod WalkLaws

@@ -3,4 +3,5 @@ pub mod check;
 pub mod configure;
 pub mod question;
 pub mod register;
+pub mod run;
 pub mod stream;
