@@ -7,4 +7,5 @@ pub mod Registers
 pub mod Configure
 pub mod Questions
 pub mod Good
+pub mod Gains
 pub mod Bench

@@ -1,4 +1,6 @@
 // The stream engine: registers, the loops of their streams, chunks and flags, calculations, and the run of a sheet.
 pub mod check;
+mod gain;
 pub mod register;
+mod size;
 pub mod stream;
