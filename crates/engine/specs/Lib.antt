@@ -15,4 +15,5 @@ pub mod Good
 pub mod Walk
 pub mod WalkLaws
 pub mod IndexLaws
+pub mod Gains
 pub mod Bench

@@ -1,7 +1,9 @@
 // The stream engine: registers, the loops of their streams, chunks and flags, calculations, and the run of a sheet.
 pub mod check;
 pub mod configure;
+mod gain;
 pub mod question;
 pub mod register;
 pub mod run;
+mod size;
 pub mod stream;
