@@ -1,4 +1,5 @@
 pub mod Loops
+pub mod LoopLaws
 pub mod Chunks
 pub mod Rules
 pub mod Addresses
