@@ -1,6 +1,7 @@
 pub mod Loops
 pub mod LoopLaws
 pub mod Chunks
+pub mod FlagLaws
 pub mod Rules
 pub mod Addresses
 pub mod Checks
