@@ -4,14 +4,16 @@
 --   differ-flag               it is above i exactly if they are not
 --   differ-none               there is none exactly if they are the same element
 --   differ-length             it is at most their length
---   loops-differ              one element differs from the next
+--   loops-even                the elements of loops are equally long
+--   differNext, loops-differ  the highest difference between an element and the next; there is one
+--   height-end, height-between   the height when no element is left, and between two elements
 --   flag-set                  a flag is set exactly if no element is left or the next one differs in an index above
 --   flag-clear                the flags are clear before any element moved, if one is to come
 --   flag-all                  all are set when no element is left
 --   flag-below                a flag that is set has all below it set
 --   height-high               the height is at most one above the dimensions
-use Prim.Native.Nat.{ℕ, zero, suc, _+_, _-_, _≤_, _<_}
-use mathlib.Core.Path.{_≡_, refl, sym, _∙_, ap, subst}
+use Prim.Native.Nat.{ℕ, zero, suc, _-_, _≤_, _<_}
+use mathlib.Core.Path.{_≡_, refl, sym, _∙_, subst}
 use mathlib.Core.List.{List, [], _∷_}
 use mathlib.Core.Logic.{_⊎_, inl, inr, ⊎-elim, _↔_}
 use mathlib.Core.Bool.{Bool, true, false, cond}
@@ -19,8 +21,8 @@ use native.Mathlib.Omega.{arith}
 use native.Mathlib.Nat.{eq-or-lt-of-le}
 use native.Mathlib.Decide.{decLe}
 use lib.ListN.{length, getD, drop}
-use lib.Dec.{eqb, ltb, leb}
-use borrow.Author.Tests.{ltb-true, lt-ltb, le-ltb, leb-true, le-leb, lt-leb, eqb-true, eqb-false, eq-eqb, ne-eqb}
+use lib.Dec.{eqb}
+use borrow.Author.Tests.{ltb-true, lt-ltb, le-ltb, le-leb, lt-leb, eqb-true, eq-eqb, ne-eqb}
 use Rattle.engine.specs.Loops.{sizeAt, loops, elements}
 use Rattle.engine.specs.LoopLaws.{Before, loops-length, loops-order, before-not-self}
 use Rattle.engine.specs.Chunks.{orAbove, differ, height, flag}
@@ -104,9 +106,13 @@ before-differ u v e b = go (decLe 1 (differ u v))
     go (yes p) = p
     go (no p) = absurd (before-not-self v (subst (λ w. Before w v) (same u v e (omega arith)) b))
 
+-- the highest difference between an element and the next
+abbrev pub differNext : List (List ℕ) → ℕ → ℕ
+differNext es n = differ (getD es n []) (getD es (suc n) [])
+
 -- one element differs from the next
 pub loops-differ : (size : ℕ → List ℕ → ℕ) (d n : ℕ) (outer : List ℕ) (j : ℕ) → suc j < length (loops size d n outer)
-    → 1 ≤ differ (getD (loops size d n outer) j []) (getD (loops size d n outer) (suc j) [])
+    → 1 ≤ differNext (loops size d n outer) j
 loops-differ size d n outer j h =
     before-differ _ _ (loops-even size d n outer j (suc j) (omega arith) h) (loops-order size d n outer j (suc j) (omega arith) h)
 
