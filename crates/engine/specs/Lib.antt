@@ -1,5 +1,11 @@
 pub mod Loops
+pub mod Members
+pub mod LoopLaws
 pub mod Chunks
+pub mod FlagLaws
+pub mod GroupLaws
+pub mod ChunkLaws
+pub mod PassLaws
 pub mod Rules
 pub mod Addresses
 pub mod Checks
