@@ -1,1 +1,3 @@
 mod GainSteps
+mod Turns
+mod Found

@@ -3,6 +3,7 @@
 --   Roomy                    a shape with 1 to 7 dimensions
 --   element-length           an element has an index for each dimension
 --   walk-start, walk-next    where the search finds the first element, and the next one
+--   index-getD, index-under  the indices themselves, and that they are under the highs
 --   size-index, address-index  sizes and addresses at seven indices are those of the element
 use Prim.Native.Nat.{ℕ, zero, suc, _+_, _-_, _≤_, _<_}
 use mathlib.Core.Path.{_≡_, refl, sym, _∙_, ap, ap₂, subst}
@@ -16,6 +17,7 @@ use Rattle.codec.specs.declared.operation.Parameter.the-variants.{Offset, Strid
 use Rattle.engine.specs.Loops.{modifiersOf, added, sizeAt, loops, elements}
 use Rattle.engine.specs.Addresses.{noBytes, noElements, inBytes, offsetAt, strideAt, addressUpTo, address}
 use Rattle.engine.specs.Registers.{indexOf}
+use Rattle.engine.specs.BoundLaws.{Under, at-under}
 use Rattle.engine.specs.Walk.{at, after}
 use Rattle.engine.specs.WalkLaws.{getD-pad, added-pad, size-pad, getD-map, index-pad, standing, start, loops-padded}
 use Rattle.engine.specs.declared.stream.Shape.{Shape}
@@ -105,3 +107,11 @@ address-up p w v n (suc d) e h q =
 -- an element's address at its seven indices
 pub address-index : (p : Pattern) (w : ℕ) (v : List ℕ) → length v ≡ p .shape .dims → p .shape .dims ≤ 7 → address p w (indexOf v) ≡ address p w v
 address-index p w v e h = address-up p w v (p .shape .dims) (p .shape .dims) e h (omega arith)
+
+-- the indices of an element, among the seven
+pub index-getD : (v : List ℕ) (n j : ℕ) → length v ≡ n → n ≤ 7 → getD (indexOf v) j 0 ≡ getD v j 0
+index-getD v n j e h = ap (λ l. getD l j 0) (index-pad v n e h) ∙ getD-pad v (7 - n) j
+
+-- an element's seven indices are under the highs
+pub index-under : (s : Shape) → Roomy s → (k : ℕ) → k < length (elements s) → Under s 0 (indexOf (getD (elements s) k []))
+index-under s r k q j = omega (arith, index-getD (getD (elements s) k []) (s .dims) j (element-length s r k q) (r .most), at-under s k j)

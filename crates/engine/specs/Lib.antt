@@ -22,4 +22,5 @@ pub mod Walk
 pub mod WalkLaws
 pub mod IndexLaws
 pub mod Gains
+pub mod BoundLaws
 pub mod Bench

@@ -2,12 +2,18 @@
 --
 --   todo, at, after        what is to come, where dimension d is about to run an index; after an element
 --   sum, within, cost, costAt   the search's falling number
+--   Element, Stands        an element's index; what a search says of a position
 --
 -- Nothing outside the walk's own contracts is stated in these words: `standing` (WalkLaws) gives them over the elements.
-use Prim.Native.Nat.{ℕ, zero, suc, _+_, _-_}
-use mathlib.Core.List.{List, _∷_, _++_}
-use lib.ListN.{getD, drop, set}
-use Rattle.engine.specs.Loops.{span, loops}
+use Prim.Native.Nat.{ℕ, zero, suc, _+_, _-_, _<_}
+use mathlib.Core.Path.{_≡_}
+use mathlib.Core.List.{List, [], _∷_, _++_}
+use mathlib.Core.Bool.{Bool, true}
+use lib.ListN.{getD, drop, set, length}
+use lib.Dec.{ltb}
+use Rattle.engine.specs.Loops.{span, loops, elements}
+use Rattle.engine.specs.Registers.{indexOf}
+use Rattle.engine.specs.declared.stream.Shape.{Shape}
 
 module _ (size : ℕ → List ℕ → ℕ) where
   -- what is still to come, where dimension d is about to run index i and there are m dimensions outside it, which stand at env
@@ -40,3 +46,14 @@ module _ (size : ℕ → List ℕ → ℕ) (n : ℕ) where
 
   abbrev pub costAt : ℕ → List ℕ → ℕ
   costAt d v = cost size (n - suc d) d (getD v d 0) (drop (suc d) v)
+
+-- an index that is an element's, at some position
+pub record Element (s : Shape) (index : List ℕ) : Type 0 where
+  pub position : ℕ
+  pub below : position < length (elements s)
+  pub here : index ≡ indexOf (getD (elements s) position [])
+
+-- what a search says of a position: whether there is an element, and which
+pub record Stands (s : Shape) (k : ℕ) (found : Bool) (index : List ℕ) : Type 0 where
+  pub told : found ≡ ltb k (length (elements s))
+  pub here : found ≡ true → index ≡ indexOf (getD (elements s) k [])

@@ -7,3 +7,4 @@ pub mod register;
 pub mod run;
 mod size;
 pub mod stream;
+mod walk;
