@@ -8,4 +8,7 @@ pub mod Configure
 pub mod Questions
 pub mod Good
 pub mod Gains
+pub mod BoundLaws
+pub mod CountLaws
+pub mod AddressLaws
 pub mod Bench
