@@ -9,18 +9,18 @@
 --   loops-under               no index of the loops passes the last one by its high
 --   element-under, at-under   nor does any index of an element
 --   under-small               so it is below 4,096
-use Prim.Native.Nat.{ℕ, zero, suc, _+_, _-_, _*_, _≤_, _<_, max}
+use Prim.Native.Nat.{ℕ, zero, suc, _+_, _-_, _≤_, _<_}
 use mathlib.Core.Path.{_≡_, refl, sym, _∙_, ap, subst}
 use mathlib.Core.Logic.{⊎-elim}
-use mathlib.Core.List.{List, [], _∷_, _++_, map, List·Memᴰ, List·Memᴰ·append-cases, List·Memᴰ·eq-of-singleton, List·Memᴰ·not-nil, List·Memᴰ·head, List·Memᴰ·tail}
+use mathlib.Core.List.{List, [], _∷_, map, List·Memᴰ, List·Memᴰ·append-cases, List·Memᴰ·eq-of-singleton, List·Memᴰ·not-nil, List·Memᴰ·head, List·Memᴰ·tail}
 use mathlib.Core.Bool.{Bool, true, false, cond, not, _||_}
 use native.Mathlib.Omega.{arith}
 use native.Mathlib.Nat.{add-suc}
 use lib.ListN.{length, getD, List·getD-eq-default}
 use lib.Dec.{ltb}
-use lib.IntN.{ℤ, pos, negsuc, subℕ, _+ℤ_}
+use lib.IntN.{pos, subℕ, _+ℤ_}
 use lib.Signed.{nonNeg}
-use borrow.Author.Tests.{ltb-true, ltb-false, not-false, lt-ltb, le-ltb}
+use borrow.Author.Tests.{ltb-true, ltb-false, not-false}
 use Rattle.codec.specs.declared.operation.Parameter.the-variants.{Size}
 use Rattle.codec.specs.declared.operation.Behaviour.the-variants.{Add, Subtract}
 use Rattle.engine.specs.Loops.{modifiersOf, added, natural, sizeAt, span, loops, elements}

@@ -8,13 +8,13 @@
 --   gain-mono, gain-same   larger indices move by more, the same indices by the same
 use Prim.Native.Nat.{ℕ, zero, suc, _+_, _-_, _*_, _≤_, _<_}
 use mathlib.Core.Path.{_≡_, refl, sym, _∙_, ap}
-use mathlib.Core.List.{List, [], _∷_, _++_}
+use mathlib.Core.List.{List, [], _∷_}
 use mathlib.Core.Bool.{Bool, true, false, cond, _&&_}
 use native.Mathlib.Omega.{arith}
 use native.Mathlib.Nat.{mul-le-mul-right}
 use lib.ListN.{getD}
 use lib.Dec.{eqb, ltb}
-use lib.IntN.{ℤ, pos, negsuc, negℤ, subℕ, _+ℤ_, +ℤ-idl}
+use lib.IntN.{pos, negsuc, negℤ, subℕ, _+ℤ_, +ℤ-idl}
 use borrow.Author.Tests.{ltb-true, ltb-false, lt-ltb, le-ltb}
 use Rattle.codec.specs.declared.operation.Parameter.{Parameter}
 use Rattle.codec.specs.declared.operation.Parameter.the-variants.{Size}

@@ -23,4 +23,6 @@ pub mod WalkLaws
 pub mod IndexLaws
 pub mod Gains
 pub mod BoundLaws
+pub mod CountLaws
+pub mod AddressLaws
 pub mod Bench
