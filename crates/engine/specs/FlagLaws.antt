@@ -12,15 +12,16 @@
 --   flag-all                  all are set when no element is left
 --   flag-below                a flag that is set has all below it set
 --   height-high               the height is at most one above the dimensions
-use Prim.Native.Nat.{ℕ, zero, suc, _-_, _≤_, _<_}
-use mathlib.Core.Path.{_≡_, refl, sym, _∙_, subst}
-use mathlib.Core.List.{List, [], _∷_}
+use Prim.Native.Nat.{ℕ, zero, suc, _+_, _-_, _≤_, _<_}
+use mathlib.Core.Path.{_≡_, refl, sym, _∙_, ap, subst}
+use mathlib.Core.List.{List, [], _∷_, _++_}
 use mathlib.Core.Logic.{_⊎_, inl, inr, ⊎-elim, _↔_}
 use mathlib.Core.Bool.{Bool, true, false, cond}
 use native.Mathlib.Omega.{arith}
 use native.Mathlib.Nat.{eq-or-lt-of-le}
 use native.Mathlib.Decide.{decLe}
-use lib.ListN.{length, getD, drop}
+use lib.ListN.{length, getD, drop, replicate}
+use lib.Seq.{getD-drop}
 use lib.Dec.{eqb}
 use borrow.Author.Tests.{ltb-true, lt-ltb, le-ltb, le-leb, lt-leb, eqb-true, eq-eqb, ne-eqb}
 use Rattle.engine.specs.Loops.{sizeAt, loops, elements}
@@ -168,3 +169,26 @@ flag-clear s i h = rw (lt-leb (length (elements s)) 0 h) (le-ltb i 0 (omega arit
 -- a flag that is set has all below it set
 pub flag-below : (h i j : ℕ) → j ≤ i → flag h i ≡ true → flag h j ≡ true
 flag-below h i j p f = lt-ltb j h (let q = ltb-true i h f in omega arith)
+
+-- zeros behind both vectors change nothing
+pub differ-pad : (u v : List ℕ) (n : ℕ) → length u ≡ length v → differ (u ++ replicate n 0) (v ++ replicate n 0) ≡ differ u v
+unfolding differ
+differ-pad [] [] n e = differ-self (replicate n 0)
+differ-pad [] (j ∷ v) n e = absurd (omega arith)
+differ-pad (i ∷ u) [] n e = absurd (omega arith)
+differ-pad (i ∷ u) (j ∷ v) n e = ap (orAbove (cond (eqb i j) 0 1)) (differ-pad u v n (omega arith))
+
+-- read from the outermost place inward: equal from place d on, the vectors differ at most at d; where they differ just below d, that is it
+pub differ-from : (d : ℕ) (u v : List ℕ) → length u ≡ length v → drop d u ≡ drop d v → differ u v ≤ d
+differ-from d u v e h = differ-drop d u v e .1 h
+
+pub differ-at : (d : ℕ) (u v : List ℕ) → length u ≡ length v → drop (suc d) u ≡ drop (suc d) v → (getD u d 0 ≡ getD v d 0 → ⊥) → differ u v ≡ suc d
+differ-at d u v e h k =
+    let a : differ u v ≤ suc d = differ-from (suc d) u v e h in
+    let b : ¬ (differ u v ≤ d) = λ q. k (same d u v (differ-drop d u v e .0 q)) in
+    omega arith
+  where
+    same : (d : ℕ) (u v : List ℕ) → drop d u ≡ drop d v → getD u d 0 ≡ getD v d 0
+    same d u v p =
+        let z : d + 0 ≡ d = omega arith in
+        sym (ap (λ j. getD u j 0) z) ∙ sym (getD-drop d u 0 0) ∙ ap (λ l. getD l 0 0) p ∙ getD-drop d v 0 0 ∙ ap (λ j. getD v j 0) z
