@@ -1,6 +1,6 @@
 -- Laws of gains as the code reckons them: by the whole index vector, and modifier after modifier.
 use Prim.Native.Nat.{ℕ, suc, _+_, _-_, _*_, _≤_, _<_}
-use mathlib.Core.Path.{_≡_, refl, _∙_, ap}
+use mathlib.Core.Path.{_≡_, refl, sym, _∙_, ap}
 use mathlib.Core.List.{List, [], _∷_, _++_}
 use mathlib.Core.Bool.{true, false}
 use native.Mathlib.Omega.{arith}
@@ -9,11 +9,13 @@ use native.Mathlib.Nat.{mul-le-mul}
 use lib.ListN.{length, getD, take, drop}
 use lib.Seq.{take-suc, getD-drop}
 use borrow.Author.Tests.{eq-eqb, ne-eqb}
+use lib.IntN.{ℤ, subℕ}
 use Rattle.codec.specs.declared.operation.Parameter.{Parameter}
 use Rattle.codec.specs.declared.operation.Behaviour.{Behaviour}
-use Rattle.engine.specs.Loops.{sameParameter, ownerIndex}
+use Rattle.codec.specs.declared.operation.Behaviour.the-variants.{Add, Subtract}
+use Rattle.engine.specs.Loops.{sameParameter, ownerIndex, added}
 use Rattle.engine.specs.Rules.{sameBehaviour}
-use Rattle.engine.specs.Gains.{gainOf, gain}
+use Rattle.engine.specs.Gains.{gainOf, gain, added-gain}
 use Rattle.engine.specs.Registers.{noModifier}
 use Rattle.engine.specs.declared.stream.Modifier.{Modifier}
 
@@ -53,6 +55,11 @@ pub gain-next : (q : Parameter) (b : Behaviour) (d : ℕ) (outer : List ℕ) (ms
     → gain q b d outer (take (k + 1) ms) ≡ gain q b d outer (take k ms) + gainOf q b d outer (getD ms k noModifier)
 gain-next q b d outer ms k h =
     rw (add-one k, take-suc ms k noModifier h, gain-append q b d outer (take k ms) (getD ms k noModifier ∷ []), gain-one q b d outer (getD ms k noModifier))
+
+-- the difference of both gains is what the modifiers add
+pub gain-change : (q : Parameter) (d : ℕ) (outer : List ℕ) (ms : List Modifier) (u w : ℕ) (z : ℤ) → u ≡ gain q Add d outer ms → w ≡ gain q Subtract d outer ms
+    → z ≡ subℕ u w → z ≡ added q d outer ms
+gain-change q d outer ms u w z e f h = h ∙ ap (λ n. subℕ n w) e ∙ ap (λ n. subℕ (gain q Add d outer ms) n) f ∙ sym (added-gain q d outer ms)
 
 -- an index times a displacement
 pub reach-small : (i n : ℕ) → i ≤ 4096 → n ≤ 1048576 → i * n ≤ 4294967296

@@ -37,7 +37,8 @@ gain q b d outer (m ∷ ms) = gainOf q b d outer m + gain q b d outer ms
 
 -- ---- differences of natural numbers
 
-sub-less : (a b : ℕ) → a < b → subℕ a b ≡ negsuc (b - suc a)
+-- a difference that is negative
+pub sub-less : (a b : ℕ) → a < b → subℕ a b ≡ negsuc (b - suc a)
 sub-less a b h = rw (lt-ltb a b h)
 
 -- a difference that is not negative

@@ -1,4 +1,5 @@
 // The stream engine: registers, the loops of their streams, chunks and flags, calculations, and the run of a sheet.
+mod address;
 pub mod check;
 pub mod configure;
 mod gain;

@@ -1,0 +1,52 @@
+-- `address::offset_at` meets its contract: what the modifiers add is the difference of their gains.
+use native.Mathlib.Omega.{arith}
+use Prim.Native.Nat.{suc}
+use mathlib.Core.Path.{_≡_, _∙_, ap}
+use lib.ListN.{getD, drop}
+use lib.IntN.{_+ℤ_}
+use Rattle.codec.specs.declared.operation.Parameter.the-variants.{Offset}
+use Rattle.engine.specs.Loops.{modifiersOf, added}
+use Rattle.engine.specs.Addresses.{noBytes}
+use Rattle.engine.proofs.GainSteps.{gain-change}
+use borrow.Author.Needs.{needs}
+use Rattle.engine.proofs.address.offset_at.Statement.{statement}
+use Rattle.engine.proofs.address.offset_at.Tie as tie
+
+mul-offset : tie.Need-mul-offset
+mul-offset c = search needs
+
+array-copy-out-offset : tie.Need-array-copy-out-offset
+array-copy-out-offset c = search needs
+
+gained-requires : tie.Need-gained-requires
+gained-requires c κs = search needs
+
+gained-requires-2 : tie.Need-gained-requires-2
+gained-requires-2 c κs = search needs
+
+change-of-requires : tie.Need-change-of-requires
+change-of-requires c κs = search needs
+
+bytes-moved-requires : tie.Need-bytes-moved-requires
+bytes-moved-requires c κs = (c .before .before .before .before .before .before .pre .0 .offset (c .before .before .before .before .before .before .args .d), c .change-of .ensures .1)
+
+returns : tie.Need-returns
+returns c =
+    let s = c .before .before .before .before .before .before .before in
+    let p = s .args .p in
+    let h : c .before .change-of .result .0 ≡ added Offset (s .args .d) (drop (suc (s .args .d)) (s .args .index)) (modifiersOf (p .shape)) =
+    gain-change Offset (s .args .d) (drop (suc (s .args .d)) (s .args .index)) (modifiersOf (p .shape)) (c .before .before .before .gained .result) (c .before .before .gained2 .result)
+    (c .before .change-of .result .0) (c .before .before .before .gained .ensures .0) (c .before .before .gained2 .ensures .0) (c .before .change-of .ensures .0) in
+    (c .bytes-moved .ensures .0 ∙ ap (λ z. getD (p .offsets) (s .args .d) noBytes .0 +ℤ z) h, c .bytes-moved .ensures .1)
+
+pub offset-at-spec : {M : Type 1} → statement M
+offset-at-spec =
+    tie.close
+    (tie.spec
+    mul-offset
+    array-copy-out-offset
+    gained-requires
+    gained-requires-2
+    change-of-requires
+    bytes-moved-requires
+    returns)

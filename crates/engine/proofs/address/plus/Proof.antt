@@ -1,0 +1,15 @@
+-- `address::plus` meets its contract: the sum of two such amounts fits.
+use native.Mathlib.Omega.{arith}
+use Rattle.engine.proofs.Exact.{sum-fits, sum-exact}
+use borrow.Author.Needs.{needs}
+use Rattle.engine.proofs.address.plus.Statement.{statement}
+use Rattle.engine.proofs.address.plus.Tie as tie
+
+add-t5 : tie.Need-add-t5
+add-t5 c = sum-fits (c .before .before .args .a .0) (c .before .before .args .b .0) (omega arith) (omega arith)
+
+returns : tie.Need-returns
+returns c = sum-exact (c .before .before .args .a .0) (c .before .before .args .b .0) (omega arith) (omega arith)
+
+pub plus-spec : {M : Type 1} → statement M
+plus-spec = tie.close (tie.spec add-t5 returns)
