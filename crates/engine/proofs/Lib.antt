@@ -2,3 +2,4 @@ mod Exact
 mod GainSteps
 mod Turns
 mod Found
+mod Rows

@@ -3,13 +3,13 @@
 --   Roomy                    a shape with 1 to 7 dimensions
 --   element-length           an element has an index for each dimension
 --   walk-start, walk-next    where the search finds the first element, and the next one
---   index-getD, index-under  the indices themselves, and that they are under the highs
+--   index-getD, index-under, element-under, element-small  the indices themselves, and that they are under the highs
 --   size-index, address-index  sizes and addresses at seven indices are those of the element
 use Prim.Native.Nat.{ℕ, zero, suc, _+_, _-_, _≤_, _<_}
 use mathlib.Core.Path.{_≡_, refl, sym, _∙_, ap, ap₂, subst}
 use mathlib.Core.List.{List, [], _∷_, _++_, map}
 use native.Mathlib.Omega.{arith}
-use lib.ListN.{length, getD, take, drop, replicate, length-map, length-append}
+use lib.ListN.{length, getD, take, drop, replicate, length-map, length-append, length-take}
 use lib.Seq.{drop-append-le}
 use lib.IntN.{ℤ, pos, _+ℤ_}
 use Rattle.codec.specs.declared.operation.Parameter.{Parameter}
@@ -17,8 +17,9 @@ use Rattle.codec.specs.declared.operation.Parameter.the-variants.{Offset, Strid
 use Rattle.engine.specs.Loops.{modifiersOf, added, sizeAt, loops, elements}
 use Rattle.engine.specs.Addresses.{noBytes, noElements, inBytes, offsetAt, strideAt, addressUpTo, address}
 use Rattle.engine.specs.Registers.{indexOf}
-use Rattle.engine.specs.BoundLaws.{Under, at-under}
-use Rattle.engine.specs.Walk.{at, after}
+use Rattle.engine.specs.BoundLaws.{Under, at-under, under-small}
+use Rattle.engine.specs.Good.{Accepted}
+use Rattle.engine.specs.Walk.{at, after, Element}
 use Rattle.engine.specs.WalkLaws.{getD-pad, added-pad, size-pad, getD-map, index-pad, standing, start, loops-padded}
 use Rattle.engine.specs.declared.stream.Shape.{Shape}
 use Rattle.engine.specs.declared.stream.Pattern.{Pattern}
@@ -115,3 +116,18 @@ index-getD v n j e h = ap (λ l. getD l j 0) (index-pad v n e h) ∙ getD-pad v 
 -- an element's seven indices are under the highs
 pub index-under : (s : Shape) → Roomy s → (k : ℕ) → k < length (elements s) → Under s 0 (indexOf (getD (elements s) k []))
 index-under s r k q j = omega (arith, index-getD (getD (elements s) k []) (s .dims) j (element-length s r k q) (r .most), at-under s k j)
+
+-- an accepted shape has room
+pub roomy : (s : Shape) → Accepted s → Roomy s
+roomy s a = record { some = a .some; most = a .ranged .dims }
+
+-- what is an element's index is under the highs, and so below 4,096
+pub element-under : (s : Shape) → Accepted s → (v : List ℕ) → Element s v → Under s 0 v
+element-under s a v e = subst (Under s 0) (sym (e .here)) (index-under s (roomy s a) (e .position) (e .below))
+
+pub element-small : (s : Shape) → Accepted s → (v : List ℕ) → Element s v → (k : ℕ) → getD v k 0 ≤ 4095
+element-small s a v e = under-small s (a .bounded) 0 (omega arith) v (element-under s a v e)
+
+-- there are seven of them
+pub index-length : (v : List ℕ) → length (indexOf v) ≡ 7
+index-length v = simp (length-take, length-append) (omega arith)

@@ -25,4 +25,5 @@ pub mod Gains
 pub mod BoundLaws
 pub mod CountLaws
 pub mod AddressLaws
+pub mod Places
 pub mod Bench

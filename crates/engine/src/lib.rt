@@ -4,6 +4,7 @@ pub mod check;
 pub mod configure;
 mod gain;
 mod height;
+mod place;
 pub mod question;
 pub mod register;
 pub mod run;

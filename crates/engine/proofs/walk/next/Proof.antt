@@ -7,24 +7,18 @@ use lib.ListN.{length, getD, drop, set}
 use lib.Seq.{getD-drop, drop-set-lt}
 use Rattle.engine.specs.Loops.{sizeAt, elements}
 use Rattle.engine.specs.Rules.{lastIndex, highAt}
-use Rattle.engine.specs.BoundLaws.{Under, lastsFrom, lasts-next, under-small}
+use Rattle.engine.specs.BoundLaws.{lastsFrom, lasts-next}
 use Rattle.engine.specs.Walk.{after}
-use Rattle.engine.specs.IndexLaws.{Roomy, walk-next, index-under}
+use Rattle.engine.specs.IndexLaws.{roomy, walk-next, element-under, element-small}
 use Rattle.engine.proofs.Turns.{all-small}
 use Rattle.engine.proofs.Found.{stands}
 use borrow.Author.Needs.{needs}
 use Rattle.engine.proofs.walk.next.Statement.{statement}
 use Rattle.engine.proofs.walk.next.Tie as tie
 
-roomy : (c : tie.Start) → Roomy (c .args .s)
-roomy c = record { some = c .pre .0 .some; most = c .pre .0 .ranged .dims }
-
 -- the indices are under the highs, and so below 4,096
-under : (c : tie.Start) → Under (c .args .s) 0 (c .args .index)
-under c = subst (Under (c .args .s) 0) (sym (c .pre .1 .here)) (index-under (c .args .s) (roomy c) (c .pre .1 .position) (c .pre .1 .below))
-
 small : (c : tie.Start) (k : ℕ) → getD (c .args .index) k 0 ≤ 4095
-small c = under-small (c .args .s) (c .pre .0 .bounded) 0 (omega arith) (c .args .index) (under c)
+small c = element-small (c .args .s) (c .pre .0) (c .args .index) (c .pre .1)
 
 long : (c : tie.Start) → length (c .args .index) ≡ 7
 long c = search needs
@@ -53,7 +47,7 @@ seek-requires c κs =
               arith,
               ap (λ l. getD l k 0) (drop-set-lt 1 i 0 (getD i 0 0 + 1) (omega arith)),
               getD-drop {A = ℕ} 1 i k 0,
-              under c (1 + k),
+              element-under s (c .pre .0) i (c .pre .1) (1 + k),
               ap (λ l. getD l (1 + k) 0) (lasts-next s 0 (c .pre .0 .some)),
               below-head k (lastIndex (highAt s 0 (lastsFrom s 1))) (lastsFrom s 1),
             ),
@@ -64,7 +58,7 @@ returns : tie.Need-returns
 returns c =
     λ k q e.
     let s = c .before .args .s in
-    let r = roomy (c .before) in
+    let r = roomy s (c .before .pre .0) in
     stands s (suc k) (c .seek .result .found) (c .seek .result .index) _
     (sym (walk-next s r k q) ∙ ap (after (sizeAt s) (s .dims)) (sym e) ∙ c .seek .ensures)
 
