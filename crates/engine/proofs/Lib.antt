@@ -1,2 +1,3 @@
 mod Exact
 mod GainSteps
+mod Lasts

@@ -3,5 +3,6 @@ mod address;
 pub mod check;
 mod gain;
 pub mod register;
+mod rules;
 mod size;
 pub mod stream;
