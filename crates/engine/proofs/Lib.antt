@@ -3,3 +3,4 @@ mod GainSteps
 mod Turns
 mod Found
 mod Rows
+mod Lasts

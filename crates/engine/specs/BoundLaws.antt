@@ -73,7 +73,8 @@ here-passed s d n h =
       or-second (not low || ltb 4096 high) (lowOrHighFrom s (suc d) n) h,
     )
 
-passed-from : (s : Shape) → lowOrHigh s ≡ false → (d : ℕ) → d ≤ s .dims → lowOrHighFrom s d (s .dims - d) ≡ false
+-- nor is any dimension from d on refused
+pub passed-from : (s : Shape) → lowOrHigh s ≡ false → (d : ℕ) → d ≤ s .dims → lowOrHighFrom s d (s .dims - d) ≡ false
 passed-from s h zero q = let z : s .dims - 0 ≡ s .dims = omega arith in ap (lowOrHighFrom s 0) z ∙ h
 passed-from s h (suc d) q =
     let z : s .dims - d ≡ suc (s .dims - suc d) = omega arith in

@@ -36,7 +36,8 @@ total-most f k zero c b h = omega (arith, zero-mul c, zero-mul b)
 total-most f k (suc n) c b h =
     omega (arith, add-mul (f k) (total f (suc k) n) c, suc-mul n b, h k (omega arith), total-most f (suc k) n c b (λ i q. h i (omega arith)))
 
-product-next : (s : Shape) (d : ℕ) → d < s .dims
+-- the product over one dimension more
+pub product-next : (s : Shape) (d : ℕ) → d < s .dims
     → product (highs s d (s .dims - d)) ≡ max 1 (highAt s d (lastsFrom s (suc d))) * product (highs s (suc d) (s .dims - suc d))
 unfolding product
 product-next s d h = ap product (highs-next s d h)
@@ -92,7 +93,7 @@ few s =
     omega arith
 
 -- the product over the dimensions outside is at most the product over all
-outer-most : (s : Shape) (n : ℕ) → n ≤ s .dims → product (highs s n (s .dims - n)) ≤ product (highsOf s)
+pub outer-most : (s : Shape) (n : ℕ) → n ≤ s .dims → product (highs s n (s .dims - n)) ≤ product (highsOf s)
 outer-most s zero h = let z : s .dims - 0 ≡ s .dims = omega arith in omega (arith, ap (λ y. product (highs s 0 y)) z)
 outer-most s (suc n) h =
     let m : ℕ = max 1 (highAt s n (lastsFrom s (suc n))) in

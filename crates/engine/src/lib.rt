@@ -8,6 +8,7 @@ mod place;
 pub mod question;
 pub mod register;
 pub mod run;
+mod rules;
 mod size;
 pub mod stream;
 mod walk;
