@@ -4,3 +4,5 @@ mod Turns
 mod Found
 mod Rows
 mod Lasts
+mod Moves
+mod Measure

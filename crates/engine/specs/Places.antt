@@ -3,18 +3,24 @@
 --   placeAt, alongOf        the place of an element; one element further along its row
 --   Onward                  what the step from a position says
 --   addressesOf             the addresses of elements
-use Prim.Native.Nat.{ℕ, zero, suc, _+_}
+--   stopsAt                 where a chunk ends
+--   Ready, Planned          a plan of the next chunk
+use Prim.Native.Nat.{ℕ, zero, suc, _+_, _≤_, _<_}
 use mathlib.Core.Path.{_≡_}
 use mathlib.Core.List.{List, [], map}
-use mathlib.Core.Bool.{Bool, true}
-use lib.ListN.{length, getD, drop, set}
+use mathlib.Core.Bool.{Bool, true, not, _||_}
+use lib.ListN.{length, getD, take, drop, set}
 use lib.Dec.{ltb}
 use lib.IntN.{_+ℤ_}
 use Rattle.codec.specs.declared.amounts.Bytes.{Bytes}
+use Rattle.codec.specs.declared.header.Coupling.{Coupling}
+use Rattle.codec.specs.declared.header.Coupling.the-variants.{Uncoupled, Coupled}
 use Rattle.engine.specs.Loops.{sizeAt, elements}
-use Rattle.engine.specs.Chunks.{height}
+use Rattle.engine.specs.Chunks.{height, chunk}
 use Rattle.engine.specs.Addresses.{strideAt, inBytes, address}
-use Rattle.engine.specs.Registers.{indexOf}
+use Rattle.engine.specs.Registers.{indexOf, shapeOf, movedBy}
+use Rattle.engine.specs.Good.{RangedPattern, Accepted}
+use Rattle.engine.specs.declared.register.Register.{Register}
 use Rattle.engine.specs.declared.stream.Pattern.{Pattern}
 use Rattle.engine.specs.declared.place.Place.{Place}
 
@@ -45,3 +51,23 @@ alongOf here = record {
   size = here .size;
   step = here .step;
 }
+
+-- whether a chunk ends where the walk goes on: there is no next element, or it lies in another pass of the coupled dimension
+abbrev pub stopsAt : Coupling → Bool → ℕ → Bool
+stopsAt Uncoupled found h = not found
+stopsAt (Coupled c) found h = not found || ltb c h
+
+-- an ended stream with elements to come, whose register says where it stands
+pub record Ready (r : Register) : Type 0 where
+  pub pattern : RangedPattern (r .pattern)
+  pub width : r .width ≤ 8
+  pub accepted : Accepted (shapeOf r)
+  pub some : r .moved < length (elements (shapeOf r))
+  pub index : r .index ≡ indexOf (getD (elements (shapeOf r)) (r .moved) [])
+  pub height : r .height ≡ height (shapeOf r) (r .moved)
+
+-- a plan of a stream's next chunk, at most so many elements: how many, their addresses, and the register after it
+pub record Planned (r : Register) (most count : ℕ) (addresses : List Bytes) (after : Register) : Type 0 where
+  pub counted : count ≡ length (chunk (shapeOf r) most (r .moved))
+  pub addressed : take count addresses ≡ addressesOf (r .pattern) (r .width) (chunk (shapeOf r) most (r .moved))
+  pub moved : after ≡ movedBy count r
