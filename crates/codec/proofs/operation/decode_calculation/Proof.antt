@@ -39,18 +39,31 @@ afterDestination a code destination at = field (refused a) (numberAt (text a) at
 abbrev afterCode : tie.After-shared-slice-known → ℕ → ℕ → Body
 afterCode a code at = field (refused a) (numberAt (text a) at) isRegister (afterDestination a code)
 
-one : (c : tie.Else1) → asked (c .before .before .before .before .before) ≡ afterCode (c .before .before .before .before .before) (c .before .before .code .given .0 .0) (c .before .before .code .given .0 .1 .0 .at)
+-- from a number in range back to the one before it
+abbrev begin : tie.Else1 → tie.After-shared-slice-known
+begin c = c .before .before .before .before .before
+
+one : (c : tie.Else1) → asked (begin c) ≡ afterCode (begin c) (c .before .before .code .given .0 .0) (c .before .before .code .given .0 .1 .0 .at)
 unfolding calculationAt
 one c = rw (sym (c .before .before .before .before .number .ensures) ∙ c .before .before .code .given .1, le-leb _ _ (c .if1 .left))
 
-two : (c : tie.Else2) → asked (c .before .before .before .before .before .before .before .before .before .before) ≡ afterDestination (c .before .before .before .before .before .before .before .before .before .before) (c .before .before .before .before .before .before .before .code .given .0 .0) (c .before .before .destination .given .0 .0) (c .before .before .destination .given .0 .1 .0 .at)
-two c = one (c .before .before .before .before .before) ∙ rw (sym (c .before .before .before .before .number2 .ensures) ∙ c .before .before .destination .given .1, le-leb _ _ (c .if2 .left))
+abbrev to1 : tie.Else2 → tie.Else1
+to1 c = c .before .before .before .before .before
 
-three : (c : tie.Else3) → asked (c .before .before .before .before .before .before .before .before .before .before .before .before .before .before .before) ≡ afterFirst (c .before .before .before .before .before .before .before .before .before .before .before .before .before .before .before) (c .before .before .before .before .before .before .before .before .before .before .before .before .code .given .0 .0) (c .before .before .before .before .before .before .before .destination .given .0 .0) (c .before .before .first .given .0 .0) (c .before .before .first .given .0 .1 .0 .at)
-three c = two (c .before .before .before .before .before) ∙ rw (sym (c .before .before .before .before .number3 .ensures) ∙ c .before .before .first .given .1, le-leb _ _ (c .if3 .left))
+two : (c : tie.Else2) → asked (begin (to1 c)) ≡ afterDestination (begin (to1 c)) ((to1 c) .before .before .code .given .0 .0) (c .before .before .destination .given .0 .0) (c .before .before .destination .given .0 .1 .0 .at)
+two c = one (to1 c) ∙ rw (sym (c .before .before .before .before .number2 .ensures) ∙ c .before .before .destination .given .1, le-leb _ _ (c .if2 .left))
 
-four : (c : tie.Else4) → asked (c .before .before .before .before .before .before .before .before .before .before .before .before .before .before .before .before .before .before .before .before .before) ≡ afterSecond (c .before .before .before .before .before .before .before .before .before .before .before .before .before .before .before .before .before .before .before .before .before) (c .before .before .before .before .before .before .before .before .before .before .before .before .before .before .before .before .before .before .code .given .0 .0) (c .before .before .before .before .before .before .before .before .before .before .before .before .before .destination .given .0 .0) (c .before .before .before .before .before .before .before .before .first .given .0 .0) (c .before .before .before .second .given .0 .0) (c .before .before .before .second .given .0 .1 .0 .at)
-four c = three (c .before .before .before .before .before .before) ∙ rw (sym (c .before .before .before .before .before .number4 .ensures) ∙ c .before .before .before .second .given .1, sym (c .before .is-second .ensures) ∙ not-false _ (c .if4 .left))
+abbrev to2 : tie.Else3 → tie.Else2
+to2 c = c .before .before .before .before .before
+
+three : (c : tie.Else3) → asked (begin (to1 (to2 c))) ≡ afterFirst (begin (to1 (to2 c))) ((to1 (to2 c)) .before .before .code .given .0 .0) ((to2 c) .before .before .destination .given .0 .0) (c .before .before .first .given .0 .0) (c .before .before .first .given .0 .1 .0 .at)
+three c = two (to2 c) ∙ rw (sym (c .before .before .before .before .number3 .ensures) ∙ c .before .before .first .given .1, le-leb _ _ (c .if3 .left))
+
+abbrev to3 : tie.Else4 → tie.Else3
+to3 c = c .before .before .before .before .before .before
+
+four : (c : tie.Else4) → asked (begin (to1 (to2 (to3 c)))) ≡ afterSecond (begin (to1 (to2 (to3 c)))) ((to1 (to2 (to3 c))) .before .before .code .given .0 .0) ((to2 (to3 c)) .before .before .destination .given .0 .0) ((to3 c) .before .before .first .given .0 .0) (c .before .before .before .second .given .0 .0) (c .before .before .before .second .given .0 .1 .0 .at)
+four c = three (to3 c) ∙ rw (sym (c .before .before .before .before .before .number4 .ensures) ∙ c .before .before .before .second .given .1, sym (c .before .is-second .ensures) ∙ not-false _ (c .if4 .left))
 
 number-requires : tie.Need-number-requires
 number-requires c κs = search needs

@@ -41,18 +41,31 @@ afterOffset a register offset at = field (refused a) (numberAt (text a) at) isSi
 abbrev afterRegister : tie.After-shared-slice-known → ℕ → ℕ → Decoded
 afterRegister a register at = signedField (refused a) (signedAt (text a) at) isReach (afterOffset a register)
 
-one : (c : tie.Else1) → asked (c .before .before .before .before .before) ≡ afterRegister (c .before .before .before .before .before) (c .before .before .register .given .0 .0) (c .before .before .register .given .0 .1 .0 .at)
+-- from a number in range back to the one before it
+abbrev begin : tie.Else1 → tie.After-shared-slice-known
+begin c = c .before .before .before .before .before
+
+one : (c : tie.Else1) → asked (begin c) ≡ afterRegister (begin c) (c .before .before .register .given .0 .0) (c .before .before .register .given .0 .1 .0 .at)
 unfolding dimensionAt
 one c = rw (sym (c .before .before .before .before .number .ensures) ∙ c .before .before .register .given .1, le-leb _ _ (c .if1 .left))
 
-two : (c : tie.Else2) → asked (c .before .before .before .before .before .before .before .before .before .before .before) ≡ afterOffset (c .before .before .before .before .before .before .before .before .before .before .before) (c .before .before .before .before .before .before .before .before .register .given .0 .0) (c .before .before .before .offset .given .0 .0) (c .before .before .before .offset .given .0 .1 .0 .at)
-two c = one (c .before .before .before .before .before .before) ∙ rw (sym (c .before .before .before .before .before .signed .ensures) ∙ c .before .before .before .offset .given .1, signed-reach _ _ (sym (c .before .before .before .before .before .signed .ensures) ∙ c .before .before .before .offset .given .1) (c .before .in-reach .ensures) ∙ not-false _ (c .if2 .left))
+abbrev to1 : tie.Else2 → tie.Else1
+to1 c = c .before .before .before .before .before .before
 
-three : (c : tie.Else3) → asked (c .before .before .before .before .before .before .before .before .before .before .before .before .before .before .before .before) ≡ afterSize (c .before .before .before .before .before .before .before .before .before .before .before .before .before .before .before .before) (c .before .before .before .before .before .before .before .before .before .before .before .before .before .register .given .0 .0) (c .before .before .before .before .before .before .before .before .offset .given .0 .0) (c .before .before .size .given .0 .0) (c .before .before .size .given .0 .1 .0 .at)
-three c = two (c .before .before .before .before .before) ∙ rw (sym (c .before .before .before .before .number2 .ensures) ∙ c .before .before .size .given .1, le-leb _ _ (c .if3 .left))
+two : (c : tie.Else2) → asked (begin (to1 c)) ≡ afterOffset (begin (to1 c)) ((to1 c) .before .before .register .given .0 .0) (c .before .before .before .offset .given .0 .0) (c .before .before .before .offset .given .0 .1 .0 .at)
+two c = one (to1 c) ∙ rw (sym (c .before .before .before .before .before .signed .ensures) ∙ c .before .before .before .offset .given .1, signed-reach _ _ (sym (c .before .before .before .before .before .signed .ensures) ∙ c .before .before .before .offset .given .1) (c .before .in-reach .ensures) ∙ not-false _ (c .if2 .left))
 
-four : (c : tie.Else4) → asked (c .before .before .before .before .before .before .before .before .before .before .before .before .before .before .before .before .before .before .before .before .before .before) ≡ afterStride (c .before .before .before .before .before .before .before .before .before .before .before .before .before .before .before .before .before .before .before .before .before .before) (c .before .before .before .before .before .before .before .before .before .before .before .before .before .before .before .before .before .before .before .register .given .0 .0) (c .before .before .before .before .before .before .before .before .before .before .before .before .before .before .offset .given .0 .0) (c .before .before .before .before .before .before .before .before .size .given .0 .0) (c .before .before .before .stride .given .0 .0) (c .before .before .before .stride .given .0 .1 .0 .at)
-four c = three (c .before .before .before .before .before .before) ∙ rw (sym (c .before .before .before .before .before .signed2 .ensures) ∙ c .before .before .before .stride .given .1, signed-reach _ _ (sym (c .before .before .before .before .before .signed2 .ensures) ∙ c .before .before .before .stride .given .1) (c .before .in-reach2 .ensures) ∙ not-false _ (c .if4 .left))
+abbrev to2 : tie.Else3 → tie.Else2
+to2 c = c .before .before .before .before .before
+
+three : (c : tie.Else3) → asked (begin (to1 (to2 c))) ≡ afterSize (begin (to1 (to2 c))) ((to1 (to2 c)) .before .before .register .given .0 .0) ((to2 c) .before .before .before .offset .given .0 .0) (c .before .before .size .given .0 .0) (c .before .before .size .given .0 .1 .0 .at)
+three c = two (to2 c) ∙ rw (sym (c .before .before .before .before .number2 .ensures) ∙ c .before .before .size .given .1, le-leb _ _ (c .if3 .left))
+
+abbrev to3 : tie.Else4 → tie.Else3
+to3 c = c .before .before .before .before .before .before
+
+four : (c : tie.Else4) → asked (begin (to1 (to2 (to3 c)))) ≡ afterStride (begin (to1 (to2 (to3 c)))) ((to1 (to2 (to3 c))) .before .before .register .given .0 .0) ((to2 (to3 c)) .before .before .before .offset .given .0 .0) ((to3 c) .before .before .size .given .0 .0) (c .before .before .before .stride .given .0 .0) (c .before .before .before .stride .given .0 .1 .0 .at)
+four c = three (to3 c) ∙ rw (sym (c .before .before .before .before .before .signed2 .ensures) ∙ c .before .before .before .stride .given .1, signed-reach _ _ (sym (c .before .before .before .before .before .signed2 .ensures) ∙ c .before .before .before .stride .given .1) (c .before .in-reach2 .ensures) ∙ not-false _ (c .if4 .left))
 
 number-requires : tie.Need-number-requires
 number-requires c κs = search needs

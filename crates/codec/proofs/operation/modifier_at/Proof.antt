@@ -51,21 +51,37 @@ afterTarget a register target at = field (refused a) (numberAt (text a) at) (upT
 abbrev afterRegister : tie.After-shared-slice-known → ℕ → ℕ → Decoded
 afterRegister a register at = field (refused a) (numberAt (text a) at) (upTo 6) (afterTarget a register)
 
-one : (c : tie.Else1) → asked (c .before .before .before .before .before) ≡ afterRegister (c .before .before .before .before .before) (c .before .before .register .given .0 .0) (c .before .before .register .given .0 .1 .0 .at)
+-- from a number in range back to the one before it
+abbrev begin : tie.Else1 → tie.After-shared-slice-known
+begin c = c .before .before .before .before .before
+
+one : (c : tie.Else1) → asked (begin c) ≡ afterRegister (begin c) (c .before .before .register .given .0 .0) (c .before .before .register .given .0 .1 .0 .at)
 unfolding modifierAt
 one c = rw (sym (c .before .before .before .before .number .ensures) ∙ c .before .before .register .given .1, le-leb _ _ (c .if1 .left))
 
-two : (c : tie.Else2) → asked (c .before .before .before .before .before .before .before .before .before .before) ≡ afterTarget (c .before .before .before .before .before .before .before .before .before .before) (c .before .before .before .before .before .before .before .register .given .0 .0) (c .before .before .target .given .0 .0) (c .before .before .target .given .0 .1 .0 .at)
-two c = one (c .before .before .before .before .before) ∙ rw (sym (c .before .before .before .before .number2 .ensures) ∙ c .before .before .target .given .1, le-leb _ _ (c .if2 .left))
+abbrev to1 : tie.Else2 → tie.Else1
+to1 c = c .before .before .before .before .before
 
-three : (c : tie.Else3) → asked (c .before .before .before .before .before .before .before .before .before .before .before .before .before .before .before) ≡ afterParameter (c .before .before .before .before .before .before .before .before .before .before .before .before .before .before .before) (c .before .before .before .before .before .before .before .before .before .before .before .before .register .given .0 .0) (c .before .before .before .before .before .before .before .target .given .0 .0) (c .before .before .parameter .given .0 .0) (c .before .before .parameter .given .0 .1 .0 .at)
-three c = two (c .before .before .before .before .before) ∙ rw (sym (c .before .before .before .before .number3 .ensures) ∙ c .before .before .parameter .given .1, le-leb _ _ (c .if3 .left))
+two : (c : tie.Else2) → asked (begin (to1 c)) ≡ afterTarget (begin (to1 c)) ((to1 c) .before .before .register .given .0 .0) (c .before .before .target .given .0 .0) (c .before .before .target .given .0 .1 .0 .at)
+two c = one (to1 c) ∙ rw (sym (c .before .before .before .before .number2 .ensures) ∙ c .before .before .target .given .1, le-leb _ _ (c .if2 .left))
 
-four : (c : tie.Else4) → asked (c .before .before .before .before .before .before .before .before .before .before .before .before .before .before .before .before .before .before .before .before) ≡ afterBehaviour (c .before .before .before .before .before .before .before .before .before .before .before .before .before .before .before .before .before .before .before .before) (c .before .before .before .before .before .before .before .before .before .before .before .before .before .before .before .before .before .register .given .0 .0) (c .before .before .before .before .before .before .before .before .before .before .before .before .target .given .0 .0) (c .before .before .before .before .before .before .before .parameter .given .0 .0) (c .before .before .behaviour .given .0 .0) (c .before .before .behaviour .given .0 .1 .0 .at)
-four c = three (c .before .before .before .before .before) ∙ rw (sym (c .before .before .before .before .number4 .ensures) ∙ c .before .before .behaviour .given .1, le-leb _ _ (c .if4 .left))
+abbrev to2 : tie.Else3 → tie.Else2
+to2 c = c .before .before .before .before .before
 
-five : (c : tie.Else5) → asked (c .before .before .before .before .before .before .before .before .before .before .before .before .before .before .before .before .before .before .before .before .before .before .before .before .before) ≡ afterDisplacement (c .before .before .before .before .before .before .before .before .before .before .before .before .before .before .before .before .before .before .before .before .before .before .before .before .before) (c .before .before .before .before .before .before .before .before .before .before .before .before .before .before .before .before .before .before .before .before .before .before .register .given .0 .0) (c .before .before .before .before .before .before .before .before .before .before .before .before .before .before .before .before .before .target .given .0 .0) (c .before .before .before .before .before .before .before .before .before .before .before .before .parameter .given .0 .0) (c .before .before .before .before .before .before .before .behaviour .given .0 .0) (c .before .before .displacement .given .0 .0) (c .before .before .displacement .given .0 .1 .0 .at)
-five c = four (c .before .before .before .before .before) ∙ rw (sym (c .before .before .before .before .number5 .ensures) ∙ c .before .before .displacement .given .1, le-leb _ _ (c .if5 .left))
+three : (c : tie.Else3) → asked (begin (to1 (to2 c))) ≡ afterParameter (begin (to1 (to2 c))) ((to1 (to2 c)) .before .before .register .given .0 .0) ((to2 c) .before .before .target .given .0 .0) (c .before .before .parameter .given .0 .0) (c .before .before .parameter .given .0 .1 .0 .at)
+three c = two (to2 c) ∙ rw (sym (c .before .before .before .before .number3 .ensures) ∙ c .before .before .parameter .given .1, le-leb _ _ (c .if3 .left))
+
+abbrev to3 : tie.Else4 → tie.Else3
+to3 c = c .before .before .before .before .before
+
+four : (c : tie.Else4) → asked (begin (to1 (to2 (to3 c)))) ≡ afterBehaviour (begin (to1 (to2 (to3 c)))) ((to1 (to2 (to3 c))) .before .before .register .given .0 .0) ((to2 (to3 c)) .before .before .target .given .0 .0) ((to3 c) .before .before .parameter .given .0 .0) (c .before .before .behaviour .given .0 .0) (c .before .before .behaviour .given .0 .1 .0 .at)
+four c = three (to3 c) ∙ rw (sym (c .before .before .before .before .number4 .ensures) ∙ c .before .before .behaviour .given .1, le-leb _ _ (c .if4 .left))
+
+abbrev to4 : tie.Else5 → tie.Else4
+to4 c = c .before .before .before .before .before
+
+five : (c : tie.Else5) → asked (begin (to1 (to2 (to3 (to4 c))))) ≡ afterDisplacement (begin (to1 (to2 (to3 (to4 c))))) ((to1 (to2 (to3 (to4 c)))) .before .before .register .given .0 .0) ((to2 (to3 (to4 c))) .before .before .target .given .0 .0) ((to3 (to4 c)) .before .before .parameter .given .0 .0) ((to4 c) .before .before .behaviour .given .0 .0) (c .before .before .displacement .given .0 .0) (c .before .before .displacement .given .0 .1 .0 .at)
+five c = four (to4 c) ∙ rw (sym (c .before .before .before .before .number5 .ensures) ∙ c .before .before .displacement .given .1, le-leb _ _ (c .if5 .left))
 
 number-requires : tie.Need-number-requires
 number-requires c κs = search needs
