@@ -2,8 +2,17 @@
 use crate::amounts::Bytes;
 use crate::amounts::Elements;
 use crate::header::Header;
+use crate::header::Word;
+use crate::header::header_of;
 use crate::number::Cursor;
+use crate::number::Number;
+use crate::number::Signed;
 use crate::refusal::Refusal;
+ghost use mathlib.Core.Path.{_≡_};
+ghost use lib.IntN.{pos};
+ghost use Prim.Native.Nat.{_≤_};
+ghost use Rattle.codec.specs.Operations.{isReach, parameterCoded, behaviourCoded, actionCoded, isSecond, openAt, dimensionAt, modifierAt, endAt, runAt, operationAt, calculationAt};
+ghost use Rattle.codec.specs.declared.operation.Decoded.the-variants as decoded;
 
 // A dimension of a register's stream: a byte offset, how many indices, and a stride in elements.
 pub struct Dimension {
@@ -74,4 +83,292 @@ pub enum Decoded {
 pub enum Body {
     Calculation(Calculation, Cursor),
     Refused(Refusal, usize),
+}
+
+impl Parameter {
+    // The parameter of a code; codes above 2 are read as 2.
+    pub fn coded(code: u64) -> Parameter
+        ensures { λ r. ⌜ r ≡ parameterCoded code ⌝ }
+    {
+        if code == 0 {
+            return Parameter::Size;
+        }
+        if code == 1 {
+            return Parameter::Offset;
+        }
+        Parameter::Stride
+    }
+}
+
+impl Behaviour {
+    // The behaviour of a code; codes above 1 are read as 1.
+    pub fn coded(code: u64) -> Behaviour
+        ensures { λ r. ⌜ r ≡ behaviourCoded code ⌝ }
+    {
+        if code == 0 {
+            return Behaviour::Add;
+        }
+        Behaviour::Subtract
+    }
+}
+
+impl Action {
+    // The action of a code; codes above 7 are read as 7.
+    pub fn coded(code: u64) -> Action
+        ensures { λ r. ⌜ r ≡ actionCoded code ⌝ }
+    {
+        if code == 0 {
+            return Action::Copy;
+        }
+        if code == 1 {
+            return Action::Add;
+        }
+        if code == 2 {
+            return Action::Subtract;
+        }
+        if code == 3 {
+            return Action::And;
+        }
+        if code == 4 {
+            return Action::Or;
+        }
+        if code == 5 {
+            return Action::Xor;
+        }
+        if code == 6 {
+            return Action::Smaller;
+        }
+        Action::Larger
+    }
+}
+
+// Whether an offset or a stride is in its range.
+fn in_reach(z: i64) -> bool
+    ensures { λ r. ⌜ r ≡ isReach z ⌝ }
+{
+    if z < -1048576 {
+        return false;
+    }
+    z <= 1048576
+}
+
+// A base as an amount of bytes.
+fn base_bytes(base: u64) -> Bytes
+    requires { ⌜ base ≤ 1048576 ⌝ }
+    ensures { λ r. ⌜ r .0 ≡ pos base ⌝ }
+{
+    Bytes(base as i64)
+}
+
+// Whether a second source is a register, and of a copy the first source.
+fn is_second(code: u64, first: u64, second: u64) -> bool
+    ensures { λ r. ⌜ r ≡ isSecond code first second ⌝ }
+{
+    if 31 < second {
+        return false;
+    }
+    if code != 0 {
+        return true;
+    }
+    second == first
+}
+
+// 1, open: header word, base. Both are read before the word is looked at.
+fn open_at(s: &[u8], place: usize, c: Cursor) -> Decoded
+    ensures { λ r. ⌜ r ≡ openAt (now (s .entry)) (λ x. decoded.Refused x place) (c .at) ⌝ }
+{
+    let Number::Value(word, c1) = c.number(s) else {
+        return Decoded::Refused(Refusal::BadNumber, place);
+    };
+    let Number::Value(base, c2) = c1.number(s) else {
+        return Decoded::Refused(Refusal::BadNumber, place);
+    };
+    if 1048576 < base {
+        return Decoded::Refused(Refusal::OutOfRange, place);
+    }
+    let bytes = base_bytes(base);
+    match header_of(word as u32) {
+        Word::Said(header) => Decoded::Operation(Operation::Open(header, bytes), c2),
+        Word::Refused(refusal) => Decoded::Refused(refusal, place),
+    }
+}
+
+// 2, dimension: register, offset, size, stride.
+fn dimension_at(s: &[u8], place: usize, c: Cursor) -> Decoded
+    ensures { λ r. ⌜ r ≡ dimensionAt (now (s .entry)) (λ x. decoded.Refused x place) (c .at) ⌝ }
+{
+    let Number::Value(register, c1) = c.number(s) else {
+        return Decoded::Refused(Refusal::BadNumber, place);
+    };
+    if 31 < register {
+        return Decoded::Refused(Refusal::OutOfRange, place);
+    }
+    let Signed::Whole(offset, c2) = c1.signed(s) else {
+        return Decoded::Refused(Refusal::BadNumber, place);
+    };
+    if !in_reach(offset) {
+        return Decoded::Refused(Refusal::OutOfRange, place);
+    }
+    let Number::Value(size, c3) = c2.number(s) else {
+        return Decoded::Refused(Refusal::BadNumber, place);
+    };
+    if 4096 < size {
+        return Decoded::Refused(Refusal::OutOfRange, place);
+    }
+    let Signed::Whole(stride, c4) = c3.signed(s) else {
+        return Decoded::Refused(Refusal::BadNumber, place);
+    };
+    if !in_reach(stride) {
+        return Decoded::Refused(Refusal::OutOfRange, place);
+    }
+    let dimension = Dimension {
+        register: register as usize,
+        offset: Bytes(offset),
+        size,
+        stride: Elements(stride),
+    };
+    Decoded::Operation(Operation::Dimension(dimension), c4)
+}
+
+// 3, modifier: register, target field, parameter, behaviour, displacement.
+fn modifier_at(s: &[u8], place: usize, c: Cursor) -> Decoded
+    ensures { λ r. ⌜ r ≡ modifierAt (now (s .entry)) (λ x. decoded.Refused x place) (c .at) ⌝ }
+{
+    let Number::Value(register, c1) = c.number(s) else {
+        return Decoded::Refused(Refusal::BadNumber, place);
+    };
+    if 31 < register {
+        return Decoded::Refused(Refusal::OutOfRange, place);
+    }
+    let Number::Value(target, c2) = c1.number(s) else {
+        return Decoded::Refused(Refusal::BadNumber, place);
+    };
+    if 6 < target {
+        return Decoded::Refused(Refusal::OutOfRange, place);
+    }
+    let Number::Value(parameter, c3) = c2.number(s) else {
+        return Decoded::Refused(Refusal::BadNumber, place);
+    };
+    if 2 < parameter {
+        return Decoded::Refused(Refusal::OutOfRange, place);
+    }
+    let Number::Value(behaviour, c4) = c3.number(s) else {
+        return Decoded::Refused(Refusal::BadNumber, place);
+    };
+    if 1 < behaviour {
+        return Decoded::Refused(Refusal::OutOfRange, place);
+    }
+    let Number::Value(displacement, c5) = c4.number(s) else {
+        return Decoded::Refused(Refusal::BadNumber, place);
+    };
+    if 1048576 < displacement {
+        return Decoded::Refused(Refusal::OutOfRange, place);
+    }
+    let modifier = Modifier {
+        register: register as usize,
+        target,
+        parameter: Parameter::coded(parameter),
+        behaviour: Behaviour::coded(behaviour),
+        displacement,
+    };
+    Decoded::Operation(Operation::Modifier(modifier), c5)
+}
+
+// 4, end: register.
+fn end_at(s: &[u8], place: usize, c: Cursor) -> Decoded
+    ensures { λ r. ⌜ r ≡ endAt (now (s .entry)) (λ x. decoded.Refused x place) (c .at) ⌝ }
+{
+    let Number::Value(register, c1) = c.number(s) else {
+        return Decoded::Refused(Refusal::BadNumber, place);
+    };
+    if 31 < register {
+        return Decoded::Refused(Refusal::OutOfRange, place);
+    }
+    Decoded::Operation(Operation::End(register as usize), c1)
+}
+
+// 5, run: loop register, count; the calculations follow.
+fn run_at(s: &[u8], place: usize, c: Cursor) -> Decoded
+    ensures { λ r. ⌜ r ≡ runAt (now (s .entry)) (λ x. decoded.Refused x place) (c .at) ⌝ }
+{
+    let Number::Value(looped, c1) = c.number(s) else {
+        return Decoded::Refused(Refusal::BadNumber, place);
+    };
+    if 31 < looped {
+        return Decoded::Refused(Refusal::OutOfRange, place);
+    }
+    let Number::Value(count, c2) = c1.number(s) else {
+        return Decoded::Refused(Refusal::BadNumber, place);
+    };
+    if count < 1 {
+        return Decoded::Refused(Refusal::OutOfRange, place);
+    }
+    if 16 < count {
+        return Decoded::Refused(Refusal::OutOfRange, place);
+    }
+    Decoded::Operation(Operation::Run(looped as usize, count), c2)
+}
+
+// The operation at the cursor. The place of its refusals is its first byte.
+pub fn decode(s: &[u8], c: Cursor) -> Decoded
+    ensures { λ r. ⌜ r ≡ operationAt (now (s .entry)) (c .at) ⌝ }
+{
+    let place = c.at;
+    let Number::Value(kind, next) = c.number(s) else {
+        return Decoded::Refused(Refusal::BadNumber, place);
+    };
+    if kind == 1 {
+        return open_at(s, place, next);
+    }
+    if kind == 2 {
+        return dimension_at(s, place, next);
+    }
+    if kind == 3 {
+        return modifier_at(s, place, next);
+    }
+    if kind == 4 {
+        return end_at(s, place, next);
+    }
+    if kind == 5 {
+        return run_at(s, place, next);
+    }
+    Decoded::Refused(Refusal::OutOfRange, place)
+}
+
+// The calculation at the cursor. The place of its refusals is its first byte.
+pub fn decode_calculation(s: &[u8], c: Cursor) -> Body
+    ensures { λ r. ⌜ r ≡ calculationAt (now (s .entry)) (c .at) ⌝ }
+{
+    let place = c.at;
+    let Number::Value(code, c1) = c.number(s) else {
+        return Body::Refused(Refusal::BadNumber, place);
+    };
+    if 7 < code {
+        return Body::Refused(Refusal::OutOfRange, place);
+    }
+    let Number::Value(destination, c2) = c1.number(s) else {
+        return Body::Refused(Refusal::BadNumber, place);
+    };
+    if 31 < destination {
+        return Body::Refused(Refusal::OutOfRange, place);
+    }
+    let Number::Value(first, c3) = c2.number(s) else {
+        return Body::Refused(Refusal::BadNumber, place);
+    };
+    if 31 < first {
+        return Body::Refused(Refusal::OutOfRange, place);
+    }
+    let Number::Value(second, c4) = c3.number(s) else {
+        return Body::Refused(Refusal::BadNumber, place);
+    };
+    if !is_second(code, first, second) {
+        return Body::Refused(Refusal::OutOfRange, place);
+    }
+    let calculation = Calculation {
+        action: Action::coded(code),
+        destination: destination as usize,
+        first: first as usize,
+        second: second as usize,
+    };
+    Body::Calculation(calculation, c4)
 }
