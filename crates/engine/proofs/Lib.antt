@@ -1,3 +1,4 @@
 mod Exact
 mod GainSteps
 mod Lasts
+mod Lengths

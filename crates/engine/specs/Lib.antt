@@ -7,6 +7,8 @@ pub mod Registers
 pub mod Configure
 pub mod Questions
 pub mod Good
+pub mod ShapeCheck
+pub mod ShapeLaws
 pub mod Gains
 pub mod BoundLaws
 pub mod CountLaws

@@ -4,5 +4,6 @@ pub mod check;
 mod gain;
 pub mod register;
 mod rules;
+pub mod shape;
 mod size;
 pub mod stream;
