@@ -1,7 +1,7 @@
 -- The last indices that a walk from the outermost dimension inward keeps in an array are those by the highs.
 use Prim.Native.Nat.{ℕ, zero, suc, _+_, _-_, _*_, _≤_, _<_, max}
 use mathlib.Core.Path.{_≡_, refl, sym, _∙_, ap, subst}
-use mathlib.Core.List.{List, [], _∷_}
+use mathlib.Core.List.{List, _∷_}
 use mathlib.Core.Bool.{Bool, true, false, cond, not, _||_}
 use native.Mathlib.Omega.{arith}
 use native.Mathlib.Nat.{mul-comm}
@@ -15,7 +15,7 @@ use Rattle.codec.specs.declared.operation.Parameter.the-variants.{Size}
 use Rattle.codec.specs.declared.operation.Behaviour.the-variants.{Add, Subtract}
 use Rattle.engine.specs.Loops.{modifiersOf}
 use Rattle.engine.specs.Rules.{lastIndex, highAt, lowAt, highs, lowOrHighFrom, lowOrHigh, product, highsOf}
-use Rattle.engine.specs.Gains.{gain, gain-same, high-nat, low-nat, sub-less, sub-pos}
+use Rattle.engine.specs.Gains.{gain-same, high-nat, low-nat, sub-less, sub-pos}
 use Rattle.engine.specs.BoundLaws.{lastsFrom, lasts-next, passed-from, passed}
 use Rattle.engine.specs.CountLaws.{product-next, outer-most}
 use Rattle.engine.specs.AddressLaws.{Small}

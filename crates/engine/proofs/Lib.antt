@@ -6,3 +6,4 @@ mod Rows
 mod Lasts
 mod Moves
 mod Measure
+mod Lengths

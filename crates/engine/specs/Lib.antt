@@ -21,6 +21,8 @@ pub mod Good
 pub mod Walk
 pub mod WalkLaws
 pub mod IndexLaws
+pub mod ShapeCheck
+pub mod ShapeLaws
 pub mod Gains
 pub mod BoundLaws
 pub mod CountLaws

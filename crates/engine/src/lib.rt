@@ -10,6 +10,7 @@ pub mod question;
 pub mod register;
 mod rules;
 pub mod run;
+pub mod shape;
 mod size;
 pub mod stream;
 mod walk;

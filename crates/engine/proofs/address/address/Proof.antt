@@ -1,6 +1,6 @@
 -- `address::address` meets its contract: after d turns the sum is the address over the first d dimensions, within 2^20 + d x 2^52.
 use native.Mathlib.Omega.{arith}
-use Prim.Native.Nat.{ℕ, suc, _+_, _-_, _*_, _≤_, _<_, _^_}
+use Prim.Native.Nat.{ℕ, suc, _+_, _-_, _*_, _≤_, _^_}
 use mathlib.Core.Path.{_≡_, refl, sym, _∙_, ap}
 use mathlib.Core.List.{List}
 use native.Mathlib.Numerals.{add-one}
@@ -9,7 +9,6 @@ use lib.IntN.{natAbs, _+ℤ_}
 use Rattle.codec.proofs.Integers.{abs-add}
 use Rattle.engine.specs.Addresses.{offsetAt, strideAt, inBytes, addressUpTo}
 use Rattle.engine.specs.declared.stream.Pattern.{Pattern}
-use borrow.Author.Needs.{needs}
 use Rattle.engine.proofs.address.address.Statement.{statement}
 use Rattle.engine.proofs.address.address.Tie as tie
 use Rattle.engine.proofs.address.address.Reads as reads

@@ -1,6 +1,6 @@
 -- `address::change_of` meets its contract: the difference of two such numbers fits.
 use native.Mathlib.Omega.{arith}
-use mathlib.Core.Path.{_≡_, refl, sym, _∙_, ap}
+use mathlib.Core.Path.{refl}
 use Rattle.engine.proofs.Exact.{minus-fits, minus-exact, minus-most}
 use borrow.Author.Needs.{needs}
 use Rattle.engine.proofs.address.change_of.Statement.{statement}

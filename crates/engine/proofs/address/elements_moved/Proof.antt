@@ -1,9 +1,8 @@
 -- `address::elements_moved` meets its contract: the sum of two such amounts fits.
 use native.Mathlib.Omega.{arith}
-use mathlib.Core.Path.{_≡_, refl, sym, _∙_, ap}
+use mathlib.Core.Path.{refl}
 use Rattle.codec.proofs.Integers.{abs-add}
 use Rattle.engine.proofs.Exact.{sum-fits, sum-exact}
-use borrow.Author.Needs.{needs}
 use Rattle.engine.proofs.address.elements_moved.Statement.{statement}
 use Rattle.engine.proofs.address.elements_moved.Tie as tie
 

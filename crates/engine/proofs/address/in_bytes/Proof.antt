@@ -1,13 +1,12 @@
 -- `address::in_bytes` meets its contract: a product of such factors stays within 2^51.
 use native.Mathlib.Omega.{arith}
-use Prim.Native.Nat.{ℕ, suc, _+_, _-_, _*_, _≤_, _<_, _^_}
-use mathlib.Core.Path.{_≡_, refl, sym, _∙_, ap}
+use Prim.Native.Nat.{_*_, _≤_, _^_}
+use mathlib.Core.Path.{refl}
 use native.Mathlib.Nat.{mul-le-mul}
 use lib.IntN.{natAbs}
 use Rattle.codec.proofs.Integers.{fits, back, cast}
 use Rattle.engine.specs.Addresses.{inBytes}
 use Rattle.engine.specs.AddressLaws.{bytes-most}
-use borrow.Author.Needs.{needs}
 use Rattle.engine.proofs.address.in_bytes.Statement.{statement}
 use Rattle.engine.proofs.address.in_bytes.Tie as tie
 

@@ -1,5 +1,4 @@
 -- `address::offset_at` meets its contract: what the modifiers add is the difference of their gains.
-use native.Mathlib.Omega.{arith}
 use Prim.Native.Nat.{suc}
 use mathlib.Core.Path.{_≡_, _∙_, ap}
 use lib.ListN.{getD, drop}

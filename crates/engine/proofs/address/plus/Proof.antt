@@ -1,7 +1,6 @@
 -- `address::plus` meets its contract: the sum of two such amounts fits.
 use native.Mathlib.Omega.{arith}
 use Rattle.engine.proofs.Exact.{sum-fits, sum-exact}
-use borrow.Author.Needs.{needs}
 use Rattle.engine.proofs.address.plus.Statement.{statement}
 use Rattle.engine.proofs.address.plus.Tie as tie
 

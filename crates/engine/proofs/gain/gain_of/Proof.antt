@@ -1,8 +1,8 @@
 -- `gain::gain_of` meets its contract: a modifier of another parameter, dimension or behaviour moves nothing; else its owner's index stands at its place in the whole index vector.
 use native.Mathlib.Omega.{arith}
-use Prim.Native.Nat.{ℕ, suc, _*_, _≤_, _<_}
+use Prim.Native.Nat.{suc, _*_, _≤_}
 use mathlib.Core.Path.{_≡_, sym, _∙_}
-use mathlib.Core.Bool.{true, false}
+use mathlib.Core.Bool.{true}
 use lib.ListN.{getD, drop}
 use borrow.Author.Tests.{not-true, not-false}
 use Rattle.engine.specs.Loops.{sameParameter}

@@ -1,12 +1,10 @@
 -- `gain::gained` meets its contract: after k turns the sum is the gain of the first k modifiers.
 use native.Mathlib.Omega.{arith}
-use Prim.Native.Nat.{ℕ, suc, _+_, _-_, _*_, _≤_, _<_}
+use Prim.Native.Nat.{suc, _-_, _*_, _≤_}
 use mathlib.Core.Path.{_≡_, sym, _∙_, ap}
-use lib.ListN.{length, getD, take, drop}
+use lib.ListN.{take, drop}
 use Rattle.engine.specs.Gains.{gain}
-use Rattle.engine.specs.Registers.{noModifier}
 use Rattle.engine.proofs.GainSteps.{gain-start, gain-next}
-use borrow.Author.Needs.{needs}
 use Rattle.engine.proofs.gain.gained.Statement.{statement}
 use Rattle.engine.proofs.gain.gained.Tie as tie
 

@@ -1,5 +1,4 @@
 -- `rules::low_holds` meets its contract: the low is a difference of natural numbers.
-use native.Mathlib.Omega.{arith}
 use Prim.Native.Nat.{suc}
 use mathlib.Core.Path.{sym, _∙_, ap}
 use lib.ListN.{getD, drop}
