@@ -28,4 +28,5 @@ pub mod BoundLaws
 pub mod CountLaws
 pub mod AddressLaws
 pub mod Places
+pub mod CheckLaws
 pub mod Bench

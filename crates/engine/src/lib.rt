@@ -12,5 +12,6 @@ mod rules;
 pub mod run;
 pub mod shape;
 mod size;
+mod states;
 pub mod stream;
 mod walk;

@@ -1,0 +1,33 @@
+-- Laws of ordered checks.
+--
+--   orElse, first-append     the first of two lists joined is that of the first list, or else of the second
+--   first-stops, first-goes  by whether the first list refuses
+use mathlib.Core.Path.{_≡_, refl, _∙_}
+use mathlib.Core.List.{List, [], _∷_, _++_}
+use mathlib.Core.Bool.{Bool, true, false, cond}
+use Rattle.codec.specs.declared.refusal.Refusal.{Refusal}
+use Rattle.engine.specs.Checks.{Check, firstOf}
+use Rattle.engine.specs.declared.check.Why.{Why}
+use Rattle.engine.specs.declared.check.Why.the-variants.{Nothing, Because}
+
+abbrev pub orElse : Why → Why → Why
+orElse Nothing w = w
+orElse (Because x) w = Because x
+
+-- a refusal of the first list comes first
+pub first-append : (xs ys : List Check) → firstOf (xs ++ ys) ≡ orElse (firstOf xs) (firstOf ys)
+unfolding firstOf
+first-append [] ys = refl
+first-append (x ∷ xs) ys = go (x .applies) (first-append xs ys)
+  where
+    go : (b : Bool) → firstOf (xs ++ ys) ≡ orElse (firstOf xs) (firstOf ys)
+        → cond b (Because (x .refusal)) (firstOf (xs ++ ys)) ≡ orElse (cond b (Because (x .refusal)) (firstOf xs)) (firstOf ys)
+    go true e = refl
+    go false e = e
+
+-- where the first list refuses, so does the whole; where it does not, the second decides
+pub first-stops : (xs ys : List Check) (w : Why) {x : Refusal} → firstOf xs ≡ w → w ≡ Because x → firstOf (xs ++ ys) ≡ w
+first-stops xs ys w e f = first-append xs ys ∙ rw (e ∙ f, f)
+
+pub first-goes : (xs ys : List Check) → firstOf xs ≡ Nothing → firstOf (xs ++ ys) ≡ firstOf ys
+first-goes xs ys e = first-append xs ys ∙ rw e

@@ -1,0 +1,99 @@
+// The states, kinds and widths of a calculation's three registers: 5, 11, 10 and 12.
+use crate::check::Why;
+use crate::register::Register;
+use crate::register::is_configuring;
+use crate::register::is_finished;
+use crate::register::is_load;
+use crate::register::is_open;
+use codec::refusal::Refusal;
+ghost use mathlib.Core.Path.{_≡_};
+ghost use mathlib.Core.Bool.{not, _&&_, _||_};
+ghost use mathlib.Core.List.{_++_};
+ghost use lib.Dec.{eqb};
+ghost use Rattle.engine.specs.Registers.{openLoad, openStore};
+ghost use Rattle.engine.specs.Checks.{firstOf};
+ghost use Rattle.engine.specs.Calculate.{sourceChecks, destinationChecks};
+
+// Why a register cannot be a source: 5, 11, 10.
+fn why_source(r: Register) -> Why
+    ensures { λ q. ⌜ q ≡ firstOf (sourceChecks r) ⌝ }
+{
+    let k = r.state;
+    if is_configuring(k) {
+        return Why::Because(Refusal::WrongState);
+    }
+    if is_finished(k) {
+        return Why::Because(Refusal::StreamEnded);
+    }
+    if open_store(r) {
+        return Why::Because(Refusal::WrongKind);
+    }
+    Why::Nothing
+}
+
+// Why a register cannot be a destination: 5, 11, 10.
+fn why_destination(r: Register) -> Why
+    ensures { λ q. ⌜ q ≡ firstOf (destinationChecks r) ⌝ }
+{
+    let k = r.state;
+    if is_configuring(k) {
+        return Why::Because(Refusal::WrongState);
+    }
+    if is_finished(k) {
+        return Why::Because(Refusal::StreamEnded);
+    }
+    if open_load(r) {
+        return Why::Because(Refusal::WrongKind);
+    }
+    Why::Nothing
+}
+
+fn open_load(r: Register) -> bool
+    ensures { λ q. ⌜ q ≡ openLoad r ⌝ }
+{
+    let s = r.state;
+    let k = r.kind;
+    if is_open(s) {
+        return is_load(k);
+    }
+    false
+}
+
+pub(crate) fn open_store(r: Register) -> bool
+    ensures { λ q. ⌜ q ≡ openStore r ⌝ }
+{
+    let s = r.state;
+    let k = r.kind;
+    if is_open(s) {
+        return !is_load(k);
+    }
+    false
+}
+
+// Why the states of the three registers do not fit: first source, second source, destination in turn.
+pub(crate) fn why_states(a: Register, b: Register, d: Register) -> Why
+    ensures { λ q. ⌜ q ≡ firstOf (sourceChecks a ++ sourceChecks b ++ destinationChecks d) ⌝ }
+{
+    let x = why_source(a);
+    let Why::Nothing = x else {
+        return x;
+    };
+    let y = why_source(b);
+    let Why::Nothing = y else {
+        return y;
+    };
+    why_destination(d)
+}
+
+// Whether widths differ: 12.
+pub(crate) fn widths_differ(a: Register, b: Register, d: Register) -> bool
+    ensures { λ q. ⌜ q ≡ (not (eqb (a .width) (b .width)) || openStore d && not (eqb (a .width) (d .width))) ⌝ }
+{
+    if a.width != b.width {
+        return true;
+    }
+    if open_store(d) {
+        return a.width != d.width;
+    }
+    false
+}
