@@ -1,1 +1,2 @@
 mod GainSteps
+mod Cuts

@@ -22,4 +22,6 @@ pub mod Walk
 pub mod WalkLaws
 pub mod IndexLaws
 pub mod Gains
+pub mod LaneLaws
+pub mod ByteLaws
 pub mod Bench

@@ -2,6 +2,7 @@
 pub mod check;
 pub mod configure;
 mod gain;
+mod lane;
 pub mod question;
 pub mod register;
 pub mod run;
