@@ -1,6 +1,6 @@
 -- A number cut to n bits, n at most 64: by a mask, and after a sum or a difference at 64 bits. Over n, so once for every width.
-use Prim.Native.Nat.{ℕ, suc, _+_, _-_, _*_, _/_, _%_, _^_, _≤_, _<_}
-use mathlib.Core.Path.{_≡_, refl, sym, _∙_, ap}
+use Prim.Native.Nat.{ℕ, _+_, _-_, _/_, _%_, _^_, _≤_, _<_}
+use mathlib.Core.Path.{_≡_, sym, _∙_, ap}
 use native.Mathlib.Omega.{arith}
 use native.Mathlib.Nat.{mod-eq-of-lt, add-mod-right, mod-add-mod, mod-eq-sub-mod, mod-lt}
 use native.Mathlib.Decide.{decLt}

@@ -1,2 +1,5 @@
 mod GainSteps
 mod Cuts
+mod ByteSteps
+mod PlaceSteps
+mod LaneSteps

@@ -7,13 +7,13 @@
 --   little-value                    the bytes of bytes' number
 --   value-small                     w bytes are a number below 2^(8w)
 --   value-stored                    a number that was stored is there
-use Prim.Native.Nat.{ℕ, zero, suc, _+_, _-_, _*_, _/_, _%_, _^_, _≤_, _<_}
-use mathlib.Core.Path.{_≡_, refl, sym, _∙_, ap, subst}
+use Prim.Native.Nat.{ℕ, zero, suc, _+_, _*_, _/_, _%_, _^_, _≤_, _<_}
+use mathlib.Core.Path.{_≡_, refl, sym, _∙_, ap}
 use mathlib.Core.List.{List, [], _∷_, _++_, append-assoc}
 use native.Mathlib.Omega.{arith}
 use native.Mathlib.Nat.{mod-eq-of-lt}
 use lib.ListN.{length, getD, take, drop}
-use lib.Seq.{drop-cons, drop-at, length-take-le, getD-drop, sets, sets-eq}
+use lib.Seq.{drop-cons, drop-at, length-take-le, sets, sets-eq}
 use lib.Pow.{pow-add, mod-pow-add}
 use Rattle.engine.specs.Memory.{valueAt, littleEndian}
 

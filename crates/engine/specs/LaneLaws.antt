@@ -18,8 +18,8 @@ use native.Mathlib.Nat.{mod-lt, mod-eq-of-lt, mod-eq-sub-mod, add-mod-right, pow
 use native.Mathlib.Decide.{decLt}
 use lib.Dec.{T, ltb, le→leb, ltb→lt}
 use lib.Pow.{pow-pos, pow-mono}
-use lib.Bits.{differ, bitAnd, bitOr, bitXor, and-step, or-step, xor-step, and-shr, or-shr, xor-shr, and-lt, or-lt, xor-lt}
-use lib.IntN.{ℤ, pos, negsuc, negℤ, _-ℤ_}
+use lib.Bits.{differ, and-step, or-step, xor-step, and-shr, or-shr, xor-shr, and-lt, or-lt, xor-lt}
+use lib.IntN.{ℤ, pos, negsuc, _-ℤ_}
 use lib.Signed.{leZ, ltZ, _≤ℤ_, ≤ℤ-refl, ltZ-no}
 use borrow.Author.Tests.{lt-ltb, le-ltb}
 use Rattle.codec.specs.declared.operation.Action.{Action}

@@ -24,4 +24,5 @@ pub mod IndexLaws
 pub mod Gains
 pub mod LaneLaws
 pub mod ByteLaws
+pub mod Plans
 pub mod Bench

@@ -3,6 +3,7 @@ pub mod check;
 pub mod configure;
 mod gain;
 mod lane;
+mod memory;
 pub mod question;
 pub mod register;
 pub mod run;

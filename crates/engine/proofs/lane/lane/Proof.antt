@@ -1,5 +1,4 @@
 -- `lane::lane` meets its contract: each arm is the action's own equation, and every action gives a lane.
-use native.Mathlib.Omega.{arith}
 use Prim.Native.Nat.{ℕ, _*_, _^_, _<_}
 use mathlib.Core.Path.{_≡_}
 use Rattle.codec.specs.declared.operation.Action.{Action}

@@ -1,5 +1,4 @@
 -- `lane::raise` meets its contract: the sum with half the range.
-use native.Mathlib.Omega.{arith}
 use Prim.Native.Nat.{_*_, _+_, _%_, _^_}
 use mathlib.Core.Path.{_∙_, ap}
 use borrow.Author.Needs.{needs}

@@ -1,5 +1,4 @@
 -- `lane::smaller` meets its contract: the test is that of the raised lanes.
-use native.Mathlib.Omega.{arith}
 use mathlib.Core.Path.{sym}
 use borrow.Author.Tests.{lt-ltb, le-ltb}
 use borrow.Author.Needs.{needs}
