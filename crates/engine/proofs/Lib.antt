@@ -7,3 +7,7 @@ mod Lasts
 mod Moves
 mod Measure
 mod Lengths
+mod Cuts
+mod ByteSteps
+mod PlaceSteps
+mod LaneSteps

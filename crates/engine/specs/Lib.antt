@@ -29,4 +29,7 @@ pub mod CountLaws
 pub mod AddressLaws
 pub mod Places
 pub mod CheckLaws
+pub mod LaneLaws
+pub mod ByteLaws
+pub mod Plans
 pub mod Bench

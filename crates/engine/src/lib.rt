@@ -6,6 +6,8 @@ mod gain;
 mod height;
 mod place;
 mod plan;
+mod lane;
+mod memory;
 pub mod question;
 pub mod register;
 mod rules;

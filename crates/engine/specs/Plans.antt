@@ -1,0 +1,73 @@
+-- Lanes and addresses by value, as the code hands them on, and what is done at a list of addresses.
+--
+--   laneList, Narrow                     the lanes of a `Lanes`; lanes of `width` bytes
+--   addressesOf                          the addresses of elements
+--   allWithin, fetchedAt, storedAt       every address lies inside memory; the values there; memory after lanes were written there
+--   stored-taken                         only as many addresses as there are lanes are written to
+--   within-elements, fetched-elements, stored-elements   at the addresses of elements: what a calculation says of the elements
+use Prim.Native.Nat.{ℕ, _*_, _^_, _<_}
+use mathlib.Core.Path.{_≡_, refl, ap}
+use mathlib.Core.List.{List, [], _∷_, map}
+use mathlib.Core.Bool.{Bool, true, _&&_}
+use lib.ListN.{length, getD, take}
+use lib.Seq.{sets}
+use Rattle.codec.specs.declared.amounts.Bytes.{Bytes}
+use Rattle.engine.specs.Loops.{natural}
+use Rattle.engine.specs.Addresses.{address, inside}
+use Rattle.engine.specs.Memory.{valueAt, littleEndian, spot, fetch, stored}
+use Rattle.engine.specs.Calculate.{allInside}
+use Rattle.engine.specs.declared.stream.Pattern.{Pattern}
+use Rattle.engine.specs.declared.memory.Lanes.{Lanes}
+
+-- the lanes are the first values
+abbrev pub laneList : Lanes → List ℕ
+laneList l = take (l .count) (l .values)
+
+-- every lane is a number of `width` bytes
+abbrev pub Narrow : ℕ → List ℕ → Type 0
+Narrow width xs = (k : ℕ) → getD xs k 0 < 2 ^ (8 * width)
+
+-- the addresses of elements
+abbrev pub addressesOf : Pattern → ℕ → List (List ℕ) → List Bytes
+addressesOf p width vs = map (λ v. record { 0 = address p width v }) vs
+
+-- every address lies inside memory
+unfoldable pub allWithin : ℕ → ℕ → List Bytes → Bool
+allWithin length width [] = true
+allWithin length width (a ∷ rest) = inside length width (a .0) && allWithin length width rest
+
+-- the values at addresses
+abbrev pub fetchedAt : List ℕ → ℕ → List Bytes → List ℕ
+fetchedAt memory width addresses = map (λ a. valueAt memory (natural (a .0)) width) addresses
+
+-- memory after lanes were written to addresses, one after the other
+unfoldable pub storedAt : List ℕ → ℕ → List Bytes → List ℕ → List ℕ
+storedAt memory width [] xs = memory
+storedAt memory width (a ∷ rest) [] = memory
+storedAt memory width (a ∷ rest) (x ∷ xs) = storedAt (sets memory (natural (a .0)) (littleEndian width x)) width rest xs
+
+-- only as many addresses as there are lanes are written to
+pub stored-taken : (memory : List ℕ) (width : ℕ) (rest : List Bytes) (xs : List ℕ) → storedAt memory width (take (length xs) rest) xs ≡ storedAt memory width rest xs
+unfolding storedAt
+stored-taken memory width [] [] = refl
+stored-taken memory width [] (x ∷ xs) = refl
+stored-taken memory width (a ∷ rest) [] = refl
+stored-taken memory width (a ∷ rest) (x ∷ xs) = stored-taken (sets memory (natural (a .0)) (littleEndian width x)) width rest xs
+
+-- the addresses of elements lie inside memory exactly if the elements do
+pub within-elements : (length width : ℕ) (p : Pattern) (vs : List (List ℕ)) → allWithin length width (addressesOf p width vs) ≡ allInside p width length vs
+unfolding allWithin allInside
+within-elements length width p [] = refl
+within-elements length width p (v ∷ vs) = ap (λ t. inside length width (address p width v) && t) (within-elements length width p vs)
+
+-- the values at the addresses of elements are the elements' values
+pub fetched-elements : (memory : List ℕ) (width : ℕ) (p : Pattern) (vs : List (List ℕ)) → fetchedAt memory width (addressesOf p width vs) ≡ map (fetch p width memory) vs
+fetched-elements memory width p [] = refl
+fetched-elements memory width p (v ∷ vs) = ap (λ l. fetch p width memory v ∷ l) (fetched-elements memory width p vs)
+
+-- lanes written to the addresses of elements are written to the elements
+pub stored-elements : (memory : List ℕ) (width : ℕ) (p : Pattern) (vs : List (List ℕ)) (xs : List ℕ) → storedAt memory width (addressesOf p width vs) xs ≡ stored p width memory vs xs
+unfolding storedAt stored
+stored-elements memory width p [] xs = refl
+stored-elements memory width p (v ∷ vs) [] = refl
+stored-elements memory width p (v ∷ vs) (x ∷ xs) = stored-elements (sets memory (spot p width v) (littleEndian width x)) width p vs xs
