@@ -4,3 +4,4 @@ pub mod NumberLaws
 pub mod Headers
 pub mod HeaderLaws
 pub mod Operations
+pub mod OperationLaws
