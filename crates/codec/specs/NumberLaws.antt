@@ -3,6 +3,7 @@
 --   areBytes                       every element is below 256
 --   Stands                         bytes stand in a sheet between two places
 --   stands-join                    what stands side by side
+--   number-some                    a number has at least one byte
 --   number-below                   a number that was read is below 2^32
 --   number-written, number-read    written then read, read then written
 --   number-one                     one encoding for each number
@@ -75,6 +76,19 @@ more-groups : (n v : ℕ) → 128 ≤ v → groupsOf (suc n) v ≡ (v % 128 + 12
 unfolding groupsOf
 more-groups n v h = rw (le-ltb v 128 h)
 
+groups-some : (n v : ℕ) → 0 < length (groupsOf n v)
+unfolding groupsOf
+groups-some zero v = omega arith
+groups-some (suc n) v = go (ltb v 128)
+  where
+    go : (t : Bool) → 0 < length (cond t (v ∷ []) ((v % 128 + 128) ∷ groupsOf n (v / 128)))
+    go true = omega arith
+    go false = omega arith
+
+-- a number has at least one byte
+pub number-some : (v : ℕ) → 0 < length (numberBytes v)
+number-some v = groups-some 4 v
+
 one-read : (n at v : ℕ) (l : List ℕ) → v < 128 → groupsAt (suc n) at (groupsOf n v ++ l) ≡ Value v (record { at = at + length (groupsOf n v) })
 unfolding groupsAt
 one-read n at v l h = rw (last-group n v h, lt-ltb v 128 h)
@@ -111,7 +125,6 @@ number-written s pre post v h e =
 record Front (n at v : ℕ) (c : Cursor) (l : List ℕ) : Type 0 where
   front : take (length (groupsOf n v)) l ≡ groupsOf n v
   behind : c .at ≡ at + length (groupsOf n v)
-  some : 0 < length (groupsOf n v)
   enough : length (groupsOf n v) ≤ length l
 
 tail-bytes : (b : ℕ) (l : List ℕ) → areBytes (b ∷ l) → areBytes l
@@ -125,7 +138,6 @@ front-last n at v b c l h e =
     record {
       front = rw g;
       behind = rw (g, y) (omega arith);
-      some = rw g (omega arith);
       enough = rw g (omega arith);
     }
 
@@ -140,7 +152,6 @@ front-more n at v w b c d l h k p f e =
     record {
       front = rw (g, f .front);
       behind = rw (g, y) (omega (arith, f .behind));
-      some = rw g (omega arith);
       enough = rw g (omega (arith, f .enough));
     }
 
@@ -180,7 +191,7 @@ number-read s at v c p e =
     record {
       bytes = rw z (f .front);
       behind = f .behind;
-      within = omega (arith, f .behind, f .some, f .enough, length-drop at s);
+      within = omega (arith, f .behind, number-some v, f .enough, length-drop at s);
     }
 
 -- one encoding: where the same number is read, the same bytes stand

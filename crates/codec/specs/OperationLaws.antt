@@ -40,7 +40,7 @@ use Rattle.codec.specs.declared.operation.Body.the-variants as body
 use Rattle.codec.specs.declared.refusal.Refusal.{Refusal}
 use Rattle.codec.specs.declared.refusal.Refusal.the-variants.{BadNumber, OutOfRange}
 use Rattle.codec.specs.Numbers.{numberAt, signedAt, numberBytes, unsignedOf, groupsOf}
-use Rattle.codec.specs.NumberLaws.{areBytes, Stands, stands-join, number-below, number-written, number-read, signed-written, signed-read}
+use Rattle.codec.specs.NumberLaws.{areBytes, Stands, stands-join, number-below, number-written, number-read, number-some, signed-written, signed-read}
 use Rattle.codec.specs.Headers.{headerOf, headerInRange, wordOf, freeBits}
 use Rattle.codec.specs.HeaderLaws.{both, isFree, free-none, free-bits, word-below, header-written, header-read}
 use Rattle.codec.specs.Operations.{field, signedField, anyNumber, upTo, isRegister, isBase, isSize, isReach, isDisplacement, isCount, parameterCoded, behaviourCoded, actionCoded, opened, openAt, dimensionAt, modifierAt, endAt, runAt, kindAt, operationAt, isSecond, calculationAt, parameterCode, behaviourCode, actionCode, dimensionInRange, modifierInRange, baseInRange, operationInRange, signedBytes, operationBytes, calculationInRange, calculationBytes}
@@ -272,3 +272,219 @@ module _ (s pre post : List ℕ) where
         action-back (c .action),
         g,
       )
+
+-- ---- read, then written
+
+-- a field that was not refused: its number, in range, and what came after it
+record Good {A : Type 0} (n : Number) (allowed : ℕ → Bool) (next : ℕ → ℕ → A) (a : A) : Type 0 where
+  v : ℕ
+  c : Cursor
+  got : n ≡ Value v c
+  fine : allowed v ≡ true
+  went : next v (c .at) ≡ a
+
+good : {A : Type 0} (refused : Refusal → A) (n : Number) (allowed : ℕ → Bool) (next : ℕ → ℕ → A) (a : A) → ((x : Refusal) → refused x ≡ a → ⊥)
+    → field refused n allowed next ≡ a → Good n allowed next a
+good refused NoNumber allowed next a never e = absurd (never BadNumber e)
+good refused (Value v c) allowed next a never e = go (allowed v) refl e
+  where
+    go : (t : Bool) → allowed v ≡ t → cond t (next v (c .at)) (refused OutOfRange) ≡ a → Good (Value v c) allowed next a
+    go true t q = record { v = v; c = c; got = refl; fine = t; went = q }
+    go false t q = absurd (never OutOfRange q)
+
+-- the same for a signed field
+record GoodSigned {A : Type 0} (n : Signed) (allowed : ℤ → Bool) (next : ℤ → ℕ → A) (a : A) : Type 0 where
+  v : ℤ
+  c : Cursor
+  got : n ≡ Whole v c
+  fine : allowed v ≡ true
+  went : next v (c .at) ≡ a
+
+good-signed : {A : Type 0} (refused : Refusal → A) (n : Signed) (allowed : ℤ → Bool) (next : ℤ → ℕ → A) (a : A) → ((x : Refusal) → refused x ≡ a → ⊥)
+    → signedField refused n allowed next ≡ a → GoodSigned n allowed next a
+good-signed refused NoWhole allowed next a never e = absurd (never BadNumber e)
+good-signed refused (Whole v c) allowed next a never e = go (allowed v) refl e
+  where
+    go : (t : Bool) → allowed v ≡ t → cond t (next v (c .at)) (refused OutOfRange) ≡ a → GoodSigned (Whole v c) allowed next a
+    go true t q = record { v = v; c = c; got = refl; fine = t; went = q }
+    go false t q = absurd (never OutOfRange q)
+
+-- what stands where an operation was read: it is in range, and its bytes are those written for it, free bits aside
+pub record Decoding (s : List ℕ) (at : ℕ) (o : Operation) (to : ℕ) : Type 0 where
+  pub free : ℕ
+  pub is-free : isFree free
+  pub range : operationInRange o ≡ true
+  pub stands : Stands s at (operationBytes free o) to
+  pub on : at < to
+
+not-refused : (place : ℕ) (o : Operation) (c : Cursor) (x : Refusal) → decoded.Refused x place ≡ decoded.Operation o c → ⊥
+not-refused place o c x e = let z : _≡_ {A = ℕ} 0 1 = cc in omega arith
+
+and-both : (a b : Bool) → a ≡ true → b ≡ true → (a && b) ≡ true
+and-both a b p q = rw (p, q)
+
+operation-some : (free : ℕ) (o : Operation) → 0 < length (operationBytes free o)
+unfolding operationBytes
+operation-some free (op.Open h b) = simp length-append (omega (arith, number-some 1))
+operation-some free (op.Dimension d) = simp length-append (omega (arith, number-some 2))
+operation-some free (op.Modifier m) = simp length-append (omega (arith, number-some 3))
+operation-some free (op.End register) = simp length-append (omega (arith, number-some 4))
+operation-some free (op.Run register count) = simp length-append (omega (arith, number-some 5))
+
+calculation-some : (c : Calculation) → 0 < length (calculationBytes c)
+unfolding calculationBytes
+calculation-some c = simp length-append (omega (arith, number-some (actionCode (c .action))))
+
+-- an operation in range whose bytes stand there
+standing : (s : List ℕ) (place to free : ℕ) (o : Operation) → isFree free → operationInRange o ≡ true → Stands s place (operationBytes free o) to → Decoding s place o to
+standing s place to free o f r k =
+    record { free = free; is-free = f; range = r; stands = k; on = omega (arith, k .behind, operation-some free o) }
+
+same : (s : List ℕ) (place : ℕ) (a o : Operation) (d c : Cursor) → decoded.Operation a d ≡ decoded.Operation o c → Decoding s place a (d .at) → Decoding s place o (c .at)
+same s place a o d c e k = let x : a ≡ o = cc in let y : d ≡ c = cc in rw (x, y) at k
+
+parameter-there : (n : ℕ) → leb n 2 ≡ true → parameterCode (parameterCoded n) ≡ n
+parameter-there zero e = refl
+parameter-there (suc zero) e = refl
+parameter-there (suc (suc n)) e = omega (arith, leb-true (suc (suc n)) 2 e)
+
+behaviour-there : (n : ℕ) → leb n 1 ≡ true → behaviourCode (behaviourCoded n) ≡ n
+behaviour-there zero e = refl
+behaviour-there (suc n) e = omega (arith, leb-true (suc n) 1 e)
+
+action-there : (n : ℕ) → leb n 7 ≡ true → actionCode (actionCoded n) ≡ n
+action-there zero e = refl
+action-there (suc zero) e = refl
+action-there (suc (suc zero)) e = refl
+action-there (suc (suc (suc zero))) e = refl
+action-there (suc (suc (suc (suc zero)))) e = refl
+action-there (suc (suc (suc (suc (suc zero))))) e = refl
+action-there (suc (suc (suc (suc (suc (suc zero)))))) e = refl
+action-there (suc (suc (suc (suc (suc (suc (suc n))))))) e = omega (arith, leb-true (suc (suc (suc (suc (suc (suc (suc n))))))) 7 e)
+
+-- a header word that was not refused
+opened-good : (w : Word) (place base to : ℕ) (o : Operation) (c : Cursor) → opened (λ x. decoded.Refused x place) w base to ≡ decoded.Operation o c
+    → (h : Header) × (w ≡ word.Said h) × (decoded.Operation (op.Open h (record { 0 = pos base })) (record { at = to }) ≡ decoded.Operation o c)
+opened-good (word.Refused x) place base to o c e = absurd (not-refused place o c x e)
+opened-good (word.Said h) place base to o c e = (h, refl, e)
+
+module _ (s : List ℕ) (place at : ℕ) (o : Operation) (c : Cursor) (p : areBytes s) where
+  open-read : Stands s place (numberBytes 1) at → openAt s (λ x. decoded.Refused x place) at ≡ decoded.Operation o c → Decoding s place o (c .at)
+  unfolding openAt operationInRange operationBytes
+  open-read k e =
+      let f = good _ (numberAt s at) anyNumber _ _ (not-refused place o c) e in
+      let g = good _ (numberAt s (f .c .at)) isBase _ _ (not-refused place o c) (f .went) in
+      let t = opened-good (headerOf (f .v)) place (g .v) (g .c .at) o c (g .went) in
+      let r = header-read (f .v) (t .0) (number-below s at (f .v) (f .c) (f .got)) (t .1) in
+      let n1 : Stands s at (numberBytes (wordOf (t .0) + freeBits (f .v))) (f .c .at) = rw (r .0) at (number-read s at (f .v) (f .c) p (f .got)) in
+      let n2 = number-read s (f .c .at) (g .v) (g .c) p (g .got) in
+      same s place (op.Open (t .0) (record { 0 = pos (g .v) })) o (record { at = g .c .at }) c (t .2)
+      (standing s place (g .c .at) (freeBits (f .v)) (op.Open (t .0) (record { 0 = pos (g .v) })) (free-bits (f .v))
+      (and-both _ _ (r .1) (g .fine))
+      (stands-join (stands-join k n1) n2))
+
+  dimension-read : Stands s place (numberBytes 2) at → dimensionAt s (λ x. decoded.Refused x place) at ≡ decoded.Operation o c → Decoding s place o (c .at)
+  unfolding dimensionAt operationInRange operationBytes
+  dimension-read k e =
+      let f1 = good _ (numberAt s at) isRegister _ _ (not-refused place o c) e in
+      let f2 = good-signed _ (signedAt s (f1 .c .at)) isReach _ _ (not-refused place o c) (f1 .went) in
+      let f3 = good _ (numberAt s (f2 .c .at)) isSize _ _ (not-refused place o c) (f2 .went) in
+      let f4 = good-signed _ (signedAt s (f3 .c .at)) isReach _ _ (not-refused place o c) (f3 .went) in
+      let a : Operation = op.Dimension (record { register = f1 .v; offset = record { 0 = f2 .v }; size = f3 .v; stride = record { 0 = f4 .v } }) in
+      same s place a o (record { at = f4 .c .at }) c (f4 .went)
+      (standing s place (f4 .c .at) 0 a free-none
+      (and-both _ _ (and-both _ _ (and-both _ _ (f1 .fine) (f2 .fine)) (f3 .fine)) (f4 .fine))
+      (stands-join (stands-join (stands-join (stands-join k
+      (number-read s at (f1 .v) (f1 .c) p (f1 .got)))
+      (signed-read s (f1 .c .at) (f2 .v) (f2 .c) p (f2 .got)))
+      (number-read s (f2 .c .at) (f3 .v) (f3 .c) p (f3 .got)))
+      (signed-read s (f3 .c .at) (f4 .v) (f4 .c) p (f4 .got))))
+
+  modifier-read : Stands s place (numberBytes 3) at → modifierAt s (λ x. decoded.Refused x place) at ≡ decoded.Operation o c → Decoding s place o (c .at)
+  unfolding modifierAt operationInRange operationBytes
+  modifier-read k e =
+      let f1 = good _ (numberAt s at) isRegister _ _ (not-refused place o c) e in
+      let f2 = good _ (numberAt s (f1 .c .at)) (upTo 6) _ _ (not-refused place o c) (f1 .went) in
+      let f3 = good _ (numberAt s (f2 .c .at)) (upTo 2) _ _ (not-refused place o c) (f2 .went) in
+      let f4 = good _ (numberAt s (f3 .c .at)) (upTo 1) _ _ (not-refused place o c) (f3 .went) in
+      let f5 = good _ (numberAt s (f4 .c .at)) isDisplacement _ _ (not-refused place o c) (f4 .went) in
+      let a : Operation = op.Modifier (record { register = f1 .v; target = f2 .v; parameter = parameterCoded (f3 .v); behaviour = behaviourCoded (f4 .v); displacement = f5 .v }) in
+      let n3 : Stands s (f2 .c .at) (numberBytes (parameterCode (parameterCoded (f3 .v)))) (f3 .c .at) = rw (parameter-there (f3 .v) (f3 .fine)) (number-read s (f2 .c .at) (f3 .v) (f3 .c) p (f3 .got)) in
+      let n4 : Stands s (f3 .c .at) (numberBytes (behaviourCode (behaviourCoded (f4 .v)))) (f4 .c .at) = rw (behaviour-there (f4 .v) (f4 .fine)) (number-read s (f3 .c .at) (f4 .v) (f4 .c) p (f4 .got)) in
+      same s place a o (record { at = f5 .c .at }) c (f5 .went)
+      (standing s place (f5 .c .at) 0 a free-none
+      (and-both _ _ (and-both _ _ (f1 .fine) (f2 .fine)) (f5 .fine))
+      (stands-join (stands-join (stands-join (stands-join (stands-join k
+      (number-read s at (f1 .v) (f1 .c) p (f1 .got)))
+      (number-read s (f1 .c .at) (f2 .v) (f2 .c) p (f2 .got)))
+      n3)
+      n4)
+      (number-read s (f4 .c .at) (f5 .v) (f5 .c) p (f5 .got))))
+
+  end-read : Stands s place (numberBytes 4) at → endAt s (λ x. decoded.Refused x place) at ≡ decoded.Operation o c → Decoding s place o (c .at)
+  unfolding endAt operationInRange operationBytes
+  end-read k e =
+      let f = good _ (numberAt s at) isRegister _ _ (not-refused place o c) e in
+      same s place (op.End (f .v)) o (record { at = f .c .at }) c (f .went)
+      (standing s place (f .c .at) 0 (op.End (f .v)) free-none (f .fine)
+      (stands-join k (number-read s at (f .v) (f .c) p (f .got))))
+
+  run-read : Stands s place (numberBytes 5) at → runAt s (λ x. decoded.Refused x place) at ≡ decoded.Operation o c → Decoding s place o (c .at)
+  unfolding runAt operationInRange operationBytes
+  run-read k e =
+      let f = good _ (numberAt s at) isRegister _ _ (not-refused place o c) e in
+      let g = good _ (numberAt s (f .c .at)) isCount _ _ (not-refused place o c) (f .went) in
+      same s place (op.Run (f .v) (g .v)) o (record { at = g .c .at }) c (g .went)
+      (standing s place (g .c .at) 0 (op.Run (f .v) (g .v)) free-none (and-both _ _ (f .fine) (g .fine))
+      (stands-join (stands-join k (number-read s at (f .v) (f .c) p (f .got))) (number-read s (f .c .at) (g .v) (g .c) p (g .got))))
+
+  kind-read : (kind : ℕ) → Stands s place (numberBytes kind) at → kindAt s (λ x. decoded.Refused x place) kind at ≡ decoded.Operation o c → Decoding s place o (c .at)
+  kind-read zero k e = absurd (not-refused place o c OutOfRange e)
+  kind-read (suc zero) k e = open-read k e
+  kind-read (suc (suc zero)) k e = dimension-read k e
+  kind-read (suc (suc (suc zero))) k e = modifier-read k e
+  kind-read (suc (suc (suc (suc zero)))) k e = end-read k e
+  kind-read (suc (suc (suc (suc (suc zero))))) k e = run-read k e
+  kind-read (suc (suc (suc (suc (suc (suc n)))))) k e = absurd (not-refused place o c OutOfRange e)
+
+-- an operation that was read is in range, and its bytes are those that are written for it, free bits aside
+pub operation-read : (s : List ℕ) (at : ℕ) (o : Operation) (c : Cursor) → areBytes s → operationAt s at ≡ decoded.Operation o c → Decoding s at o (c .at)
+unfolding operationAt
+operation-read s at o c p e =
+    let f = good _ (numberAt s at) anyNumber _ _ (not-refused at o c) e in
+    kind-read s at (f .c .at) o c p (f .v) (number-read s at (f .v) (f .c) p (f .got)) (f .went)
+
+-- what stands where a calculation was read: it is in range, and its bytes are those written for it
+pub record Bodying (s : List ℕ) (at : ℕ) (b : Calculation) (to : ℕ) : Type 0 where
+  pub range : calculationInRange b ≡ true
+  pub stands : Stands s at (calculationBytes b) to
+  pub on : at < to
+
+not-refused-body : (place : ℕ) (b : Calculation) (c : Cursor) (x : Refusal) → body.Refused x place ≡ body.Calculation b c → ⊥
+not-refused-body place b c x e = let z : _≡_ {A = ℕ} 0 1 = cc in omega arith
+
+same-body : (s : List ℕ) (place : ℕ) (a b : Calculation) (d c : Cursor) → body.Calculation a d ≡ body.Calculation b c → Bodying s place a (d .at) → Bodying s place b (c .at)
+same-body s place a b d c e k = let x : a ≡ b = cc in let y : d ≡ c = cc in rw (x, y) at k
+
+-- a calculation that was read is in range, and its bytes are those that are written for it
+pub calculation-read : (s : List ℕ) (at : ℕ) (b : Calculation) (c : Cursor) → areBytes s → calculationAt s at ≡ body.Calculation b c → Bodying s at b (c .at)
+unfolding calculationAt calculationBytes
+calculation-read s at b c p e =
+    let f1 = good _ (numberAt s at) (upTo 7) _ _ (not-refused-body at b c) e in
+    let f2 = good _ (numberAt s (f1 .c .at)) isRegister _ _ (not-refused-body at b c) (f1 .went) in
+    let f3 = good _ (numberAt s (f2 .c .at)) isRegister _ _ (not-refused-body at b c) (f2 .went) in
+    let f4 = good _ (numberAt s (f3 .c .at)) (isSecond (f1 .v) (f3 .v)) _ _ (not-refused-body at b c) (f3 .went) in
+    let a : Calculation = record { action = actionCoded (f1 .v); destination = f2 .v; first = f3 .v; second = f4 .v } in
+    let there = action-there (f1 .v) (f1 .fine) in
+    let n1 : Stands s at (numberBytes (actionCode (actionCoded (f1 .v)))) (f1 .c .at) = rw there (number-read s at (f1 .v) (f1 .c) p (f1 .got)) in
+    let r : isSecond (actionCode (actionCoded (f1 .v))) (f3 .v) (f4 .v) ≡ true = rw there (f4 .fine) in
+    let k : Stands s at (calculationBytes a) (f4 .c .at) = stands-join (stands-join (stands-join n1
+        (number-read s (f1 .c .at) (f2 .v) (f2 .c) p (f2 .got)))
+        (number-read s (f2 .c .at) (f3 .v) (f3 .c) p (f3 .got)))
+        (number-read s (f3 .c .at) (f4 .v) (f4 .c) p (f4 .got)) in
+    same-body s at a b (record { at = f4 .c .at }) c (f4 .went)
+    (record {
+      range = and-both _ _ (and-both _ _ (f2 .fine) (f3 .fine)) r;
+      stands = k;
+      on = omega (arith, k .behind, calculation-some a);
+    })
