@@ -322,10 +322,9 @@ unfolding headerSaid wordOf freeBits
 header-read w h k e =
     let p = said w h e in
     let f = fixed-parts w (p .0) (p .1) in
-    let c = coupling-there (bitsOf 27 3 w) (bitsOf 30 1 w) (omega arith) (omega arith) (f .not7) (f .uncoupled) in
-    (
+    let c = coupling-there (bitsOf 27 3 w) (bitsOf 30 1 w) (omega arith) (omega arith) (f .not7) (f .uncoupled) in (
       rw (← p .2, width-there (bitsOf 12 2 w) (omega arith), kind-there (bitsOf 14 1 w) (omega arith), c .0)
-      (summed w _ _ _ _ _ _ _ _ _ _ _ _ _ _ _ _ _ _ _ _ _ _ _ (at-7 w) (at-12 w) (at-14 w) (at-15 w) (at-20 w) (at-22 w) (at-24 w) (at-25 w) (at-27 w) (at-30 w) (at-31 w) (at-32 w k)
-      (f .op) (f .z20) (f .z24) (f .z25) (f .z31)),
+          (summed w _ _ _ _ _ _ _ _ _ _ _ _ _ _ _ _ _ _ _ _ _ _ _ (at-7 w) (at-12 w) (at-14 w) (at-15 w) (at-20 w) (at-22 w) (at-24 w) (at-25 w) (at-27 w) (at-30 w) (at-31 w) (at-32 w k)
+          (f .op) (f .z20) (f .z24) (f .z25) (f .z31)),
       rw (← p .2, le-leb (bitsOf 7 5 w) 31 (omega arith), c .1),
     )

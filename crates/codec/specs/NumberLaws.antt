@@ -47,7 +47,7 @@ stands-join {s} {l} {k} {a} {m} {to} p q =
     let f : a + (m - a) ≡ m = omega (arith, p .behind) in
     record {
       bytes =
-        rw (e, take-add (m - a) (to - m) (drop a s), drop-drop (m - a) a s, f, p .bytes, q .bytes);
+          rw (e, take-add (m - a) (to - m) (drop a s), drop-drop (m - a) a s, f, p .bytes, q .bytes);
       behind = rw length-append (omega (arith, p .behind, q .behind));
       within = q .within;
     }

@@ -368,6 +368,36 @@ opened-good : (w : Word) (place base to : ℕ) (o : Operation) (c : Cursor) → 
 opened-good (word.Refused x) place base to o c e = absurd (not-refused place o c x e)
 opened-good (word.Said h) place base to o c e = (h, refl, e)
 
+-- a dimension whose numbers stand side by side
+dimension-stands : (s : List ℕ) (place at a1 a2 a3 a4 r n : ℕ) (f t : ℤ) → isRegister r ≡ true → isReach f ≡ true → isSize n ≡ true → isReach t ≡ true
+    → Stands s place (numberBytes 2) at → Stands s at (numberBytes r) a1 → Stands s a1 (signedBytes f) a2 → Stands s a2 (numberBytes n) a3 → Stands s a3 (signedBytes t) a4
+    → (o : Operation) (c : Cursor)
+    → decoded.Operation (op.Dimension (record { register = r; offset = record { 0 = f }; size = n; stride = record { 0 = t } })) (record { at = a4 }) ≡ decoded.Operation o c
+    → Decoding s place o (c .at)
+unfolding operationInRange operationBytes
+dimension-stands s place at a1 a2 a3 a4 r n f t hr hf hn ht k0 k1 k2 k3 k4 o c e =
+    same s place _ o (record { at = a4 }) c e
+    (standing s place a4 0 _ free-none
+    (and-both _ _ (and-both _ _ (and-both _ _ hr hf) hn) ht)
+    (stands-join (stands-join (stands-join (stands-join k0 k1) k2) k3) k4))
+
+-- a modifier whose numbers stand side by side
+modifier-stands : (s : List ℕ) (place at a1 a2 a3 a4 a5 r g q b d : ℕ)
+    → isRegister r ≡ true → upTo 6 g ≡ true → upTo 2 q ≡ true → upTo 1 b ≡ true → isDisplacement d ≡ true
+    → Stands s place (numberBytes 3) at → Stands s at (numberBytes r) a1 → Stands s a1 (numberBytes g) a2 → Stands s a2 (numberBytes q) a3
+    → Stands s a3 (numberBytes b) a4 → Stands s a4 (numberBytes d) a5
+    → (o : Operation) (c : Cursor)
+    → decoded.Operation (op.Modifier (record { register = r; target = g; parameter = parameterCoded q; behaviour = behaviourCoded b; displacement = d })) (record { at = a5 }) ≡ decoded.Operation o c
+    → Decoding s place o (c .at)
+unfolding operationInRange operationBytes
+modifier-stands s place at a1 a2 a3 a4 a5 r g q b d hr hg hq hb hd k0 k1 k2 k3 k4 k5 o c e =
+    let j3 : Stands s a2 (numberBytes (parameterCode (parameterCoded q))) a3 = rw (parameter-there q hq) k3 in
+    let j4 : Stands s a3 (numberBytes (behaviourCode (behaviourCoded b))) a4 = rw (behaviour-there b hb) k4 in
+    same s place _ o (record { at = a5 }) c e
+    (standing s place a5 0 _ free-none
+    (and-both _ _ (and-both _ _ hr hg) hd)
+    (stands-join (stands-join (stands-join (stands-join (stands-join k0 k1) k2) j3) j4) k5))
+
 module _ (s : List ℕ) (place at : ℕ) (o : Operation) (c : Cursor) (p : areBytes s) where
   open-read : Stands s place (numberBytes 1) at → openAt s (λ x. decoded.Refused x place) at ≡ decoded.Operation o c → Decoding s place o (c .at)
   unfolding openAt operationInRange operationBytes
@@ -384,42 +414,35 @@ module _ (s : List ℕ) (place at : ℕ) (o : Operation) (c : Cursor) (p : areBy
       (stands-join (stands-join k n1) n2))
 
   dimension-read : Stands s place (numberBytes 2) at → dimensionAt s (λ x. decoded.Refused x place) at ≡ decoded.Operation o c → Decoding s place o (c .at)
-  unfolding dimensionAt operationInRange operationBytes
+  unfolding dimensionAt
   dimension-read k e =
       let f1 = good _ (numberAt s at) isRegister _ _ (not-refused place o c) e in
       let f2 = good-signed _ (signedAt s (f1 .c .at)) isReach _ _ (not-refused place o c) (f1 .went) in
       let f3 = good _ (numberAt s (f2 .c .at)) isSize _ _ (not-refused place o c) (f2 .went) in
       let f4 = good-signed _ (signedAt s (f3 .c .at)) isReach _ _ (not-refused place o c) (f3 .went) in
-      let a : Operation = op.Dimension (record { register = f1 .v; offset = record { 0 = f2 .v }; size = f3 .v; stride = record { 0 = f4 .v } }) in
-      same s place a o (record { at = f4 .c .at }) c (f4 .went)
-      (standing s place (f4 .c .at) 0 a free-none
-      (and-both _ _ (and-both _ _ (and-both _ _ (f1 .fine) (f2 .fine)) (f3 .fine)) (f4 .fine))
-      (stands-join (stands-join (stands-join (stands-join k
-      (number-read s at (f1 .v) (f1 .c) p (f1 .got)))
-      (signed-read s (f1 .c .at) (f2 .v) (f2 .c) p (f2 .got)))
-      (number-read s (f2 .c .at) (f3 .v) (f3 .c) p (f3 .got)))
-      (signed-read s (f3 .c .at) (f4 .v) (f4 .c) p (f4 .got))))
+      dimension-stands s place at (f1 .c .at) (f2 .c .at) (f3 .c .at) (f4 .c .at) (f1 .v) (f3 .v) (f2 .v) (f4 .v) (f1 .fine) (f2 .fine) (f3 .fine) (f4 .fine) k
+      (number-read s at (f1 .v) (f1 .c) p (f1 .got))
+      (signed-read s (f1 .c .at) (f2 .v) (f2 .c) p (f2 .got))
+      (number-read s (f2 .c .at) (f3 .v) (f3 .c) p (f3 .got))
+      (signed-read s (f3 .c .at) (f4 .v) (f4 .c) p (f4 .got))
+      o c (f4 .went)
 
   modifier-read : Stands s place (numberBytes 3) at → modifierAt s (λ x. decoded.Refused x place) at ≡ decoded.Operation o c → Decoding s place o (c .at)
-  unfolding modifierAt operationInRange operationBytes
+  unfolding modifierAt
   modifier-read k e =
       let f1 = good _ (numberAt s at) isRegister _ _ (not-refused place o c) e in
       let f2 = good _ (numberAt s (f1 .c .at)) (upTo 6) _ _ (not-refused place o c) (f1 .went) in
       let f3 = good _ (numberAt s (f2 .c .at)) (upTo 2) _ _ (not-refused place o c) (f2 .went) in
       let f4 = good _ (numberAt s (f3 .c .at)) (upTo 1) _ _ (not-refused place o c) (f3 .went) in
-      let f5 = good _ (numberAt s (f4 .c .at)) isDisplacement _ _ (not-refused place o c) (f4 .went) in
-      let a : Operation = op.Modifier (record { register = f1 .v; target = f2 .v; parameter = parameterCoded (f3 .v); behaviour = behaviourCoded (f4 .v); displacement = f5 .v }) in
-      let n3 : Stands s (f2 .c .at) (numberBytes (parameterCode (parameterCoded (f3 .v)))) (f3 .c .at) = rw (parameter-there (f3 .v) (f3 .fine)) (number-read s (f2 .c .at) (f3 .v) (f3 .c) p (f3 .got)) in
-      let n4 : Stands s (f3 .c .at) (numberBytes (behaviourCode (behaviourCoded (f4 .v)))) (f4 .c .at) = rw (behaviour-there (f4 .v) (f4 .fine)) (number-read s (f3 .c .at) (f4 .v) (f4 .c) p (f4 .got)) in
-      same s place a o (record { at = f5 .c .at }) c (f5 .went)
-      (standing s place (f5 .c .at) 0 a free-none
-      (and-both _ _ (and-both _ _ (f1 .fine) (f2 .fine)) (f5 .fine))
-      (stands-join (stands-join (stands-join (stands-join (stands-join k
-      (number-read s at (f1 .v) (f1 .c) p (f1 .got)))
-      (number-read s (f1 .c .at) (f2 .v) (f2 .c) p (f2 .got)))
-      n3)
-      n4)
-      (number-read s (f4 .c .at) (f5 .v) (f5 .c) p (f5 .got))))
+      let f5 = good _ (numberAt s (f4 .c .at)) isDisplacement
+      (λ x to. decoded.Operation (op.Modifier (record { register = f1 .v; target = f2 .v; parameter = parameterCoded (f3 .v); behaviour = behaviourCoded (f4 .v); displacement = x })) (record { at = to })) _ (not-refused place o c) (f4 .went) in
+      modifier-stands s place at (f1 .c .at) (f2 .c .at) (f3 .c .at) (f4 .c .at) (f5 .c .at) (f1 .v) (f2 .v) (f3 .v) (f4 .v) (f5 .v) (f1 .fine) (f2 .fine) (f3 .fine) (f4 .fine) (f5 .fine) k
+      (number-read s at (f1 .v) (f1 .c) p (f1 .got))
+      (number-read s (f1 .c .at) (f2 .v) (f2 .c) p (f2 .got))
+      (number-read s (f2 .c .at) (f3 .v) (f3 .c) p (f3 .got))
+      (number-read s (f3 .c .at) (f4 .v) (f4 .c) p (f4 .got))
+      (number-read s (f4 .c .at) (f5 .v) (f5 .c) p (f5 .got))
+      o c (f5 .went)
 
   end-read : Stands s place (numberBytes 4) at → endAt s (λ x. decoded.Refused x place) at ≡ decoded.Operation o c → Decoding s place o (c .at)
   unfolding endAt operationInRange operationBytes
@@ -466,25 +489,32 @@ not-refused-body place b c x e = let z : _≡_ {A = ℕ} 0 1 = cc in omega arith
 same-body : (s : List ℕ) (place : ℕ) (a b : Calculation) (d c : Cursor) → body.Calculation a d ≡ body.Calculation b c → Bodying s place a (d .at) → Bodying s place b (c .at)
 same-body s place a b d c e k = let x : a ≡ b = cc in let y : d ≡ c = cc in rw (x, y) at k
 
+-- a calculation whose numbers stand side by side
+calculation-stands : (s : List ℕ) (at a1 a2 a3 a4 k d f n : ℕ) → upTo 7 k ≡ true → isRegister d ≡ true → isRegister f ≡ true → isSecond k f n ≡ true
+    → Stands s at (numberBytes k) a1 → Stands s a1 (numberBytes d) a2 → Stands s a2 (numberBytes f) a3 → Stands s a3 (numberBytes n) a4
+    → (o : Calculation) (c : Cursor)
+    → body.Calculation (record { action = actionCoded k; destination = d; first = f; second = n }) (record { at = a4 }) ≡ body.Calculation o c
+    → Bodying s at o (c .at)
+unfolding calculationBytes
+calculation-stands s at a1 a2 a3 a4 k d f n hk hd hf hn k1 k2 k3 k4 o c e =
+    let b : Calculation = record { action = actionCoded k; destination = d; first = f; second = n } in
+    let j1 : Stands s at (numberBytes (actionCode (actionCoded k))) a1 = rw (action-there k hk) k1 in
+    let r : isSecond (actionCode (actionCoded k)) f n ≡ true = rw (action-there k hk) hn in
+    let j : Stands s at (calculationBytes b) a4 = stands-join (stands-join (stands-join j1 k2) k3) k4 in
+    same-body s at b o (record { at = a4 }) c e
+    (record { range = and-both _ _ (and-both _ _ hd hf) r; stands = j; on = omega (arith, j .behind, calculation-some b) })
+
 -- a calculation that was read is in range, and its bytes are those that are written for it
 pub calculation-read : (s : List ℕ) (at : ℕ) (b : Calculation) (c : Cursor) → areBytes s → calculationAt s at ≡ body.Calculation b c → Bodying s at b (c .at)
-unfolding calculationAt calculationBytes
+unfolding calculationAt
 calculation-read s at b c p e =
     let f1 = good _ (numberAt s at) (upTo 7) _ _ (not-refused-body at b c) e in
     let f2 = good _ (numberAt s (f1 .c .at)) isRegister _ _ (not-refused-body at b c) (f1 .went) in
     let f3 = good _ (numberAt s (f2 .c .at)) isRegister _ _ (not-refused-body at b c) (f2 .went) in
     let f4 = good _ (numberAt s (f3 .c .at)) (isSecond (f1 .v) (f3 .v)) _ _ (not-refused-body at b c) (f3 .went) in
-    let a : Calculation = record { action = actionCoded (f1 .v); destination = f2 .v; first = f3 .v; second = f4 .v } in
-    let there = action-there (f1 .v) (f1 .fine) in
-    let n1 : Stands s at (numberBytes (actionCode (actionCoded (f1 .v)))) (f1 .c .at) = rw there (number-read s at (f1 .v) (f1 .c) p (f1 .got)) in
-    let r : isSecond (actionCode (actionCoded (f1 .v))) (f3 .v) (f4 .v) ≡ true = rw there (f4 .fine) in
-    let k : Stands s at (calculationBytes a) (f4 .c .at) = stands-join (stands-join (stands-join n1
-        (number-read s (f1 .c .at) (f2 .v) (f2 .c) p (f2 .got)))
-        (number-read s (f2 .c .at) (f3 .v) (f3 .c) p (f3 .got)))
-        (number-read s (f3 .c .at) (f4 .v) (f4 .c) p (f4 .got)) in
-    same-body s at a b (record { at = f4 .c .at }) c (f4 .went)
-    (record {
-      range = and-both _ _ (and-both _ _ (f2 .fine) (f3 .fine)) r;
-      stands = k;
-      on = omega (arith, k .behind, calculation-some a);
-    })
+    calculation-stands s at (f1 .c .at) (f2 .c .at) (f3 .c .at) (f4 .c .at) (f1 .v) (f2 .v) (f3 .v) (f4 .v) (f1 .fine) (f2 .fine) (f3 .fine) (f4 .fine)
+    (number-read s at (f1 .v) (f1 .c) p (f1 .got))
+    (number-read s (f1 .c .at) (f2 .v) (f2 .c) p (f2 .got))
+    (number-read s (f2 .c .at) (f3 .v) (f3 .c) p (f3 .got))
+    (number-read s (f3 .c .at) (f4 .v) (f4 .c) p (f4 .got))
+    b c (f4 .went)
