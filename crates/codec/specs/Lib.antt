@@ -5,3 +5,4 @@ pub mod Headers
 pub mod HeaderLaws
 pub mod Operations
 pub mod OperationLaws
+pub mod Writing

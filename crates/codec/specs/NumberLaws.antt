@@ -3,6 +3,7 @@
 --   areBytes                       every element is below 256
 --   Stands                         bytes stand in a sheet between two places
 --   stands-join                    what stands side by side
+--   last-group, more-groups        the groups of a number, one by one
 --   number-some                    a number has at least one byte
 --   number-below                   a number that was read is below 2^32
 --   number-written, number-read    written then read, read then written
@@ -67,12 +68,14 @@ number-below s at v c e = short (groupsAt 5 at (drop at s)) v c e .0
 
 -- ---- written, then read
 
-last-group : (n v : ℕ) → v < 128 → groupsOf n v ≡ v ∷ []
+-- a number below 128 is its only group
+pub last-group : (n v : ℕ) → v < 128 → groupsOf n v ≡ v ∷ []
 unfolding groupsOf
 last-group zero v h = refl
 last-group (suc n) v h = rw (lt-ltb v 128 h)
 
-more-groups : (n v : ℕ) → 128 ≤ v → groupsOf (suc n) v ≡ (v % 128 + 128) ∷ groupsOf n (v / 128)
+-- the lowest group of a number from 128 on, with its high bit
+pub more-groups : (n v : ℕ) → 128 ≤ v → groupsOf (suc n) v ≡ (v % 128 + 128) ∷ groupsOf n (v / 128)
 unfolding groupsOf
 more-groups n v h = rw (le-ltb v 128 h)
 
