@@ -1,3 +1,4 @@
 pub mod Integers
 mod Groups
 mod Texts
+mod Ranges

@@ -1,6 +1,5 @@
 -- `writing::put_number` meets its contract: the text of a number is its bytes.
 use native.Mathlib.Omega.{arith}
-use mathlib.Core.Path.{_∙_}
 use borrow.Author.Tests.{lt-ltb, le-ltb}
 use Rattle.codec.specs.Numbers.{numberBytes}
 use Rattle.codec.specs.Writing.{isNumber}
@@ -9,11 +8,8 @@ use borrow.Author.Needs.{needs}
 use Rattle.codec.proofs.writing.put_number.Statement.{statement}
 use Rattle.codec.proofs.writing.put_number.Tie as tie
 
-empty-requires : tie.Need-empty-requires
-empty-requires c κs = search needs
-
-with-number-requires : tie.Need-with-number-requires
-with-number-requires c κs = search needs
+number-text-requires : tie.Need-number-text-requires
+number-text-requires c κs = search needs
 
 put-requires : tie.Need-put-requires
 put-requires c κs = search needs
@@ -23,14 +19,12 @@ same-length c = search needs
 
 returns : tie.Need-returns
 returns c = 
-    let w = c .before .before .before .before in
-    let a = c .before .before .before .before .before .before .before .before .args in
-    agreed (numberBytes (a .v)) (a .buf .now) (a .at) (isNumber (a .v)) _ _ _ (lt-ltb (a .v) 4294967296 (omega arith)) (w .with-number .ensures .0 ∙ rw (w .before .empty .ensures .0)) (c .before .before .put .ensures)
+    let a = c .before .before .before .before .before .before .before .args in
+    agreed (numberBytes (a .v)) (a .buf .now) (a .at) (isNumber (a .v)) _ _ _ (lt-ltb (a .v) 4294967296 (omega arith)) (c .before .before .before .before .number-text .ensures .0) (c .before .before .put .ensures)
 
 returns-2 : tie.Need-returns-2
 returns-2 c = let a = c .before .before .args in no-range (numberBytes (a .v)) (a .buf .now) (a .at) (isNumber (a .v)) (le-ltb (a .v) 4294967296 (omega arith))
 
 pub put-number-spec : {M : Type 1} → statement M
 put-number-spec =
-    tie.close
-    (tie.spec empty-requires with-number-requires put-requires same-length returns returns-2)
+    tie.close (tie.spec number-text-requires put-requires same-length returns returns-2)
