@@ -1,15 +1,16 @@
 -- Laws of header words: a header that was written is read back, and a word that was read is the one written, free bits aside.
 --
---   isFree                        a value of the free bits
+--   both                          what an `&&` says
+--   isFree, free-none, free-bits  a value of the free bits: 0, and those of any word
 --   coupled-range, header-range   what it says that a field is in range
 --   header-written, word-below    written then read
 --   header-read                   read then written
-use Prim.Native.Nat.{ℕ, zero, suc, _+_, _-_, _*_, _/_, _%_, _^_, _≤_, _<_}
-use mathlib.Core.Path.{_≡_, refl, sym, _∙_, ap}
+use Prim.Native.Nat.{ℕ, zero, suc, _+_, _-_, _*_, _/_, _≤_, _<_}
+use mathlib.Core.Path.{_≡_, refl, ap}
 use mathlib.Core.Bool.{Bool, true, false, cond, not, _&&_, _||_}
 use native.Mathlib.Omega.{arith}
-use lib.Dec.{ltb, leb, eqb}
-use borrow.Author.Tests.{leb-true, eqb-true, eqb-false, eq-eqb, ne-eqb, le-leb, not-true}
+use lib.Dec.{leb, eqb}
+use borrow.Author.Tests.{leb-true, eqb-true, eqb-false, ne-eqb, le-leb, not-true}
 use Rattle.codec.specs.declared.header.Kind.{Kind}
 use Rattle.codec.specs.declared.header.Kind.the-variants.{Load, Store}
 use Rattle.codec.specs.declared.header.Width.{Width}
@@ -17,11 +18,9 @@ use Rattle.codec.specs.declared.header.Width.the-variants.{B, H, W, D}
 use Rattle.codec.specs.declared.header.Coupling.{Coupling}
 use Rattle.codec.specs.declared.header.Coupling.the-variants.{Uncoupled, Coupled}
 use Rattle.codec.specs.declared.header.Header.{Header}
-use Rattle.codec.specs.declared.header.Word.{Word}
 use Rattle.codec.specs.declared.header.Word.the-variants.{Said, Refused}
-use Rattle.codec.specs.declared.refusal.Refusal.{Refusal}
 use Rattle.codec.specs.declared.refusal.Refusal.the-variants.{FixedBits, NotCarried}
-use Rattle.codec.specs.Headers.{bitsOf, fixedBits, carriedBits, kindOf, widthCoded, couplingOf, headerSaid, headerOf, couplingInRange, headerInRange, kindCode, widthCode, couplingCode, wordOf, freeBits}
+use Rattle.codec.specs.Headers.{bitsOf, fixedBits, carriedBits, widthCoded, headerSaid, headerOf, couplingInRange, headerInRange, kindCode, widthCode, couplingCode, wordOf, freeBits}
 
 -- both hold
 pub both : (a b : Bool) → (a && b) ≡ true → (a ≡ true) × (b ≡ true)

@@ -9,7 +9,8 @@
 --   number-written, number-read    written then read, read then written
 --   number-one                     one encoding for each number
 --   unsigned-signed, signed-unsigned  signed numbers and what stands for them
---   unsigned-range                 which signed numbers are below 2^32 as written
+--   unsigned-range, signed-range   which signed numbers are below 2^32 as written
+--   signed-number                  a signed number is read where a number is
 --   signed-written, signed-read    the same for signed numbers
 use Prim.Native.Nat.{ℕ, zero, suc, _+_, _-_, _*_, _%_, _/_, _^_, _≤_, _<_}
 use mathlib.Core.Path.{_≡_, refl, sym, _∙_}
@@ -27,8 +28,7 @@ use borrow.Author.Tests.{ltb-true, ltb-false, lt-ltb, le-ltb, eq-eqb, ne-eqb, eq
 use Rattle.codec.specs.declared.number.Cursor.{Cursor}
 use Rattle.codec.specs.declared.number.Number.{Number}
 use Rattle.codec.specs.declared.number.Number.the-variants.{Value, NoNumber}
-use Rattle.codec.specs.declared.number.Signed.{Signed}
-use Rattle.codec.specs.declared.number.Signed.the-variants.{Whole, NoWhole}
+use Rattle.codec.specs.declared.number.Signed.the-variants.{Whole}
 use Rattle.codec.specs.Numbers.{above, groupsAt, notTooLong, numberAt, groupsOf, numberBytes, unsignedOf, signedOf, asSigned, signedAt}
 
 -- every element is a byte

@@ -3,16 +3,16 @@
 --   Decoding, Bodying                          what stands where an operation or a calculation was read
 --   operation-written, calculation-written     written then read
 --   operation-read, calculation-read           read then written
-use Prim.Native.Nat.{ℕ, zero, suc, _+_, _-_, _*_, _≤_, _<_}
-use mathlib.Core.Path.{_≡_, refl, sym, _∙_, ap}
-use mathlib.Core.List.{List, [], _∷_, _++_, append-assoc}
+use Prim.Native.Nat.{ℕ, zero, suc, _+_, _<_}
+use mathlib.Core.Path.{_≡_, refl, _∙_}
+use mathlib.Core.List.{List, _++_, append-assoc}
 use mathlib.Core.Bool.{Bool, true, false, cond, not, _&&_, _||_}
 use native.Mathlib.Omega.{arith}
 use lib.ListN.{length, length-append}
-use lib.Dec.{ltb, leb, eqb}
+use lib.Dec.{leb, eqb}
 use lib.IntN.{ℤ, pos, negsuc, natAbs}
 use lib.Signed.{mag, nonNeg}
-use borrow.Author.Tests.{leb-true, eqb-true, le-leb}
+use borrow.Author.Tests.{leb-true}
 use Rattle.codec.specs.declared.amounts.Bytes.{Bytes}
 use Rattle.codec.specs.declared.number.Cursor.{Cursor}
 use Rattle.codec.specs.declared.number.Number.{Number}
@@ -33,17 +33,15 @@ use Rattle.codec.specs.declared.operation.Operation.the-variants as op
 use Rattle.codec.specs.declared.operation.Action.{Action}
 use Rattle.codec.specs.declared.operation.Action.the-variants as action
 use Rattle.codec.specs.declared.operation.Calculation.{Calculation}
-use Rattle.codec.specs.declared.operation.Decoded.{Decoded}
 use Rattle.codec.specs.declared.operation.Decoded.the-variants as decoded
-use Rattle.codec.specs.declared.operation.Body.{Body}
 use Rattle.codec.specs.declared.operation.Body.the-variants as body
 use Rattle.codec.specs.declared.refusal.Refusal.{Refusal}
 use Rattle.codec.specs.declared.refusal.Refusal.the-variants.{BadNumber, OutOfRange}
-use Rattle.codec.specs.Numbers.{numberAt, signedAt, numberBytes, unsignedOf, groupsOf}
+use Rattle.codec.specs.Numbers.{numberAt, signedAt, numberBytes}
 use Rattle.codec.specs.NumberLaws.{areBytes, Stands, stands-join, number-below, number-written, number-read, number-some, signed-written, signed-read}
 use Rattle.codec.specs.Headers.{headerOf, headerInRange, wordOf, freeBits}
 use Rattle.codec.specs.HeaderLaws.{both, isFree, free-none, free-bits, word-below, header-written, header-read}
-use Rattle.codec.specs.Operations.{field, signedField, anyNumber, upTo, isRegister, isBase, isSize, isReach, isDisplacement, isCount, parameterCoded, behaviourCoded, actionCoded, opened, openAt, dimensionAt, modifierAt, endAt, runAt, kindAt, operationAt, isSecond, calculationAt, parameterCode, behaviourCode, actionCode, dimensionInRange, modifierInRange, baseInRange, operationInRange, signedBytes, operationBytes, calculationInRange, calculationBytes}
+use Rattle.codec.specs.Operations.{field, signedField, anyNumber, upTo, isRegister, isBase, isSize, isReach, isDisplacement, isCount, parameterCoded, behaviourCoded, actionCoded, opened, openAt, dimensionAt, modifierAt, endAt, runAt, kindAt, operationAt, isSecond, calculationAt, parameterCode, behaviourCode, actionCode, baseInRange, operationInRange, signedBytes, operationBytes, calculationInRange, calculationBytes}
 
 -- ---- written, then read
 

@@ -40,7 +40,10 @@ struct Text {
 fn empty() -> Text
     ensures { λ r. ⌜ (textOf r ≡ []) × (r .len ≡ 0) ⌝ }
 {
-    Text { bytes: [0; 32], len: 0 }
+    Text {
+        bytes: [0; 32],
+        len: 0,
+    }
 }
 
 // One byte more.
@@ -51,7 +54,11 @@ fn push(t: Text, b: u8) -> Text
     let mut bytes = t.bytes;
     let len = t.len;
     bytes[len] = b;
-    Text { bytes: bytes, len: len + 1 }
+    let more = len + 1;
+    Text {
+        bytes: bytes,
+        len: more,
+    }
 }
 
 // The groups of a number, lowest first, the high bit set on every one but the last.
@@ -121,7 +128,8 @@ fn put(buf: &mut [u8], at: usize, t: Text) -> Written
         return Written::NoRoom;
     }
     copy(buf, at, t);
-    Written::To(at + len)
+    let behind = at + len;
+    Written::To(behind)
 }
 
 // Writes a number below 2^32.

@@ -1,11 +1,9 @@
 -- `writing::base_in_range` meets its contract.
-use native.Mathlib.Omega.{arith}
 use mathlib.Core.Path.{_≡_, sym}
 use mir.Facts.{toZ-ofZ}
 use mir.Syntax.{w64}
 use mir.Val.{toZ, ofZ}
 use Rattle.codec.proofs.Ranges.{base-low, base-high}
-use borrow.Author.Needs.{needs}
 use Rattle.codec.proofs.writing.base_in_range.Statement.{statement}
 use Rattle.codec.proofs.writing.base_in_range.Tie as tie
 

@@ -5,7 +5,6 @@ use mir.Facts.{toZ-ofZ}
 use mir.Syntax.{w64}
 use mir.Val.{toZ, ofZ}
 use Rattle.codec.proofs.Ranges.{base-is}
-use borrow.Author.Needs.{needs}
 use Rattle.codec.proofs.writing.base_of.Statement.{statement}
 use Rattle.codec.proofs.writing.base_of.Tie as tie
 

@@ -20,13 +20,13 @@ action-code-requires : tie.Need-action-code-requires
 action-code-requires c κs = search needs
 
 returns-4 : tie.Need-returns-4
-returns-4 c = 
+returns-4 c =
     let k = c .before .before .before .before .before .before .before .before .before .args .c in
     let e : actionCode (k .action) ≡ 0 = omega (arith, c .before .before .action-code .ensures .0) in
     rw (le-leb (k .destination) 31 (omega arith), le-leb (k .first) 31 (omega arith), le-leb (k .second) 31 (omega arith), e)
 
 returns-5 : tie.Need-returns-5
-returns-5 c = 
+returns-5 c =
     let k = c .before .before .before .before .before .before .before .before .args .c in
     let e : actionCode (k .action) ≡ 0 → ⊥ = λ q. omega (arith, c .before .action-code .ensures .0, c .if4 .left) in
     rw (le-leb (k .destination) 31 (omega arith), le-leb (k .first) 31 (omega arith), le-leb (k .second) 31 (omega arith), ne-eqb (actionCode (k .action)) 0 e)

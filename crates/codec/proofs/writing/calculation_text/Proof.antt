@@ -25,10 +25,10 @@ with-number-requires-3 c κs = let s = c .before .before .before .before in omeg
 returns : tie.Need-returns
 unfolding calculationBytes
 returns c = (
-      c .with-number3 .ensures .0
+  c .with-number3 .ensures .0
       ∙ rw (c .before .with-number2 .ensures .0, c .before .before .with-number .ensures .0, c .before .before .before .number-text .ensures .0, c .before .before .before .before .action-code .ensures .0),
-      omega arith,
-    )
+  omega arith,
+)
 
 pub calculation-text-spec : {M : Type 1} → statement M
 calculation-text-spec =

@@ -1,6 +1,6 @@
 -- `writing::copy` meets its contract: what is left to copy, stored in the slice as it is, gives what the whole text stored in the slice as it was.
 use native.Mathlib.Omega.{arith}
-use Prim.Native.Nat.{ℕ, _+_, _-_, _≤_}
+use Prim.Native.Nat.{_+_, _-_, _≤_}
 use mathlib.Core.Path.{_≡_, refl, sym, _∙_}
 use lib.ListN.{length, take, drop, length-set}
 use lib.Seq.{sets}
@@ -36,7 +36,7 @@ loop-less : tie.Need-loop-less Inv-loop μ-loop
 loop-less c = omega arith
 
 loop-again : tie.Need-loop-again Inv-loop μ-loop
-loop-again c = 
+loop-again c =
     let l = c .before .loop in
     let a = c .before .before .before .args in
     let n : length (a .t .bytes) ≡ 32 = search needs in
@@ -46,7 +46,7 @@ same-length : tie.Need-same-length Inv-loop μ-loop
 same-length c = search needs
 
 returns : tie.Need-returns Inv-loop μ-loop
-returns c = 
+returns c =
     let l = c .before .loop in
     let a = c .before .before .before .args in
     sym (copied-all (l .buf) (a .t .bytes) (a .at) (l .k) (a .t .len) (omega arith)) ∙ l .inv .2

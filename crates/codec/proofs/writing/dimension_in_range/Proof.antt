@@ -26,7 +26,7 @@ in-reach-requires-2 : tie.Need-in-reach-requires-2
 in-reach-requires-2 c κs = search needs
 
 returns-3 : tie.Need-returns-3
-returns-3 c = 
+returns-3 c =
     let d = c .before .before .before .before .before .before .before .before .before .before .before .args .d in
     let e = rw (toZ-ofZ {w = w64} {z = d .stride .0} (record { sfits = c .before .struct-told2 .given .0 .1 })) at (c .in-reach2 .ensures) in
     rw (le-leb (d .register) 31 (omega arith), sym (first (c .before .before .before .before .before)) ∙ c .before .before .before .before .if2 .taken, le-leb (d .size) 4096 (omega arith)) e

@@ -1,9 +1,7 @@
 -- `writing::in_reach` meets its contract: the lowest is as far from 0 as the highest.
-use native.Mathlib.Omega.{arith}
 use mathlib.Core.Path.{sym}
 use mir.Facts.{toZ-ofZ}
 use Rattle.codec.proofs.Ranges.{reach-low, reach-high}
-use borrow.Author.Needs.{needs}
 use Rattle.codec.proofs.writing.in_reach.Statement.{statement}
 use Rattle.codec.proofs.writing.in_reach.Tie as tie
 

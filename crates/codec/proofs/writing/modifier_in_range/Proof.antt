@@ -1,7 +1,6 @@
 -- `writing::modifier_in_range` meets its contract: the fields are tested in their order.
 use native.Mathlib.Omega.{arith}
 use borrow.Author.Tests.{le-leb, lt-leb}
-use borrow.Author.Needs.{needs}
 use Rattle.codec.proofs.writing.modifier_in_range.Statement.{statement}
 use Rattle.codec.proofs.writing.modifier_in_range.Tie as tie
 

@@ -34,7 +34,7 @@ with-number-requires-5 c κs = let s = c .before .before .before .before .before
 returns : tie.Need-returns
 unfolding operationBytes
 returns c = (
-      c .with-number5 .ensures .0
+  c .with-number5 .ensures .0
       ∙ rw (
         c .before .with-number4 .ensures .0,
         c .before .before .before .with-number3 .ensures .0,
@@ -44,8 +44,8 @@ returns c = (
         c .before .before .before .before .parameter-code .ensures .0,
         c .before .before .behaviour-code .ensures .0,
       ),
-      omega arith,
-    )
+  omega arith,
+)
 
 pub modifier-text-spec : {M : Type 1} → statement M
 modifier-text-spec =

@@ -1,5 +1,4 @@
 -- `writing::open_in_range` meets its contract: the header, then the base.
-use native.Mathlib.Omega.{arith}
 use mathlib.Core.Path.{sym, _∙_}
 use Rattle.codec.specs.Operations.{operationInRange}
 use borrow.Author.Needs.{needs}

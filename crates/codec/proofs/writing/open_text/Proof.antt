@@ -26,10 +26,10 @@ with-number-requires-2 c κs = search needs
 returns : tie.Need-returns
 unfolding operationBytes
 returns c = (
-      c .with-number2 .ensures .0
+  c .with-number2 .ensures .0
       ∙ rw (c .before .before .with-number .ensures .0, c .before .before .before .before .number-text .ensures .0, c .before .before .before .word-in-range .ensures .0, c .before .base-of .ensures .0, add-zero),
-      omega arith,
-    )
+  omega arith,
+)
 
 pub open-text-spec : {M : Type 1} → statement M
 open-text-spec =

@@ -1,5 +1,4 @@
 -- `writing::operation_in_range` meets its contract: kind by kind.
-use native.Mathlib.Omega.{arith}
 use Rattle.codec.specs.Operations.{operationInRange}
 use borrow.Author.Needs.{needs}
 use Rattle.codec.proofs.writing.operation_in_range.Statement.{statement}

@@ -26,17 +26,17 @@ returns-2 c = let s = c .before .before .before in no-room (textOf (s .args .t))
 copy-requires : tie.Need-copy-requires
 copy-requires c κs = search needs
 
-add-t7 : tie.Need-add-t7
-add-t7 c = search needs
+add-behind : tie.Need-add-behind
+add-behind c = search needs
 
 same-length : tie.Need-same-length
 same-length c = search needs
 
 returns-3 : tie.Need-returns-3
-returns-3 c = 
+returns-3 c =
     let s = c .before .before .before .before .before .before .before in
     let p = room (textOf (s .args .t)) (s .args .buf .now) (s .args .at) (omega (arith, whole s)) in
     (ap (λ n. To (s .args .at + n)) (sym (whole s)) ∙ p .0, c .before .before .copy .ensures ∙ p .1)
 
 pub put-spec : {M : Type 1} → statement M
-put-spec = tie.close (tie.spec returns returns-2 copy-requires add-t7 same-length returns-3)
+put-spec = tie.close (tie.spec returns returns-2 copy-requires add-behind same-length returns-3)

@@ -1,5 +1,4 @@
 -- `writing::put_header` meets its contract: its text is its bytes.
-use native.Mathlib.Omega.{arith}
 use mathlib.Core.Path.{sym, _∙_}
 use Rattle.codec.specs.Headers.{headerInRange, wordOf}
 use Rattle.codec.specs.Numbers.{numberBytes}
@@ -24,7 +23,7 @@ same-length : tie.Need-same-length
 same-length c = search needs
 
 returns : tie.Need-returns
-returns c = 
+returns c =
     let a = c .before .before .before .before .before .before .before .before .before .args in
     agreed (numberBytes (wordOf (a .h))) (a .buf .now) (a .at) (headerInRange (a .h)) _ _ _ (sym (c .before .before .before .before .before .before .before .header-in-range .ensures) ∙ c .before .before .before .before .before .before .if1 .taken) (c .before .before .before .before .number-text .ensures .0 ∙ rw (c .before .before .before .before .before .word-in-range .ensures .0)) (c .before .before .put .ensures)
 

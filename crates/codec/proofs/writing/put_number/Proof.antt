@@ -18,7 +18,7 @@ same-length : tie.Need-same-length
 same-length c = search needs
 
 returns : tie.Need-returns
-returns c = 
+returns c =
     let a = c .before .before .before .before .before .before .before .args in
     agreed (numberBytes (a .v)) (a .buf .now) (a .at) (isNumber (a .v)) _ _ _ (lt-ltb (a .v) 4294967296 (omega arith)) (c .before .before .before .before .number-text .ensures .0) (c .before .before .put .ensures)
 

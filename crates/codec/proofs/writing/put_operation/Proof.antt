@@ -1,5 +1,4 @@
 -- `writing::put_operation` meets its contract: its text is its bytes.
-use native.Mathlib.Omega.{arith}
 use mathlib.Core.Path.{sym, _∙_}
 use Rattle.codec.specs.Operations.{operationInRange, operationBytes}
 use Rattle.codec.proofs.Texts.{agreed, no-range}
@@ -20,7 +19,7 @@ same-length : tie.Need-same-length
 same-length c = search needs
 
 returns : tie.Need-returns
-returns c = 
+returns c =
     let a = c .before .before .before .before .before .before .before .before .args in
     agreed (operationBytes 0 (a .o)) (a .buf .now) (a .at) (operationInRange (a .o)) _ _ _ (sym (c .before .before .before .before .before .before .operation-in-range .ensures) ∙ c .before .before .before .before .before .if1 .taken) (c .before .before .before .before .operation-text .ensures .0) (c .before .before .put .ensures)
 

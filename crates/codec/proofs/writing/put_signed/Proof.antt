@@ -22,7 +22,7 @@ inside : (c : tie.After-signed-in-range) → c .signed-in-range .result ≡ isSi
 inside c = rw (toZ-ofZ (c .before .before .fits .n)) at (c .signed-in-range .ensures)
 
 with-signed-requires : tie.Need-with-signed-requires
-with-signed-requires c κs = 
+with-signed-requires c κs =
     let s = c .before .before .before .before in
     (rw (toZ-ofZ (s .fits .n)) (ltb-true (mag (s .args .n)) 2147483648 (sym (inside (c .before .before)) ∙ c .before .if1 .taken)), omega arith)
 
@@ -33,7 +33,7 @@ same-length : tie.Need-same-length
 same-length c = search needs
 
 returns : tie.Need-returns
-returns c = 
+returns c =
     let w = c .before .before .before .before in
     let i = c .before .before .before .before .before .before .before in
     let a = i .before .before .args in

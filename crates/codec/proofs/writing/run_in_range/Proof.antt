@@ -2,7 +2,6 @@
 use native.Mathlib.Omega.{arith}
 use borrow.Author.Tests.{le-leb, lt-leb}
 use Rattle.codec.specs.Operations.{operationInRange}
-use borrow.Author.Needs.{needs}
 use Rattle.codec.proofs.writing.run_in_range.Statement.{statement}
 use Rattle.codec.proofs.writing.run_in_range.Tie as tie
 

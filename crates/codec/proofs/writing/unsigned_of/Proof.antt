@@ -1,6 +1,5 @@
 -- `writing::unsigned_of` meets its contract: a number below 0 is -(k + 1), and -1 less it is k.
 use native.Mathlib.Omega.{arith}
-use Prim.Native.Nat.{_*_}
 use mathlib.Core.Path.{_≡_, sym, _∙_}
 use mathlib.Core.Bool.{true, false}
 use lib.IntN.{pos, negsuc, _-ℤ_}
@@ -10,7 +9,6 @@ use mir.Val.{toZ, ofZ}
 use mir.Facts.{toZ-ofZ}
 use Rattle.codec.proofs.Integers.{fits, back}
 use Rattle.codec.proofs.Texts.{turned, upright, doubled}
-use borrow.Author.Needs.{needs}
 use Rattle.codec.proofs.writing.unsigned_of.Statement.{statement}
 use Rattle.codec.proofs.writing.unsigned_of.Tie as tie
 

@@ -1,14 +1,13 @@
 -- `writing::with_number` meets its contract: what was pushed and the groups that are left are the groups of the number; so many groups hold what is left.
 use native.Mathlib.Omega.{arith}
 use Prim.Native.Nat.{ℕ, suc, _+_, _/_, _%_, _^_, _≤_, _<_}
-use mathlib.Core.Path.{_≡_, refl, sym, _∙_}
-use mathlib.Core.List.{_∷_, _++_}
+use mathlib.Core.Path.{_≡_, refl, _∙_}
+use mathlib.Core.List.{_++_}
 use lib.Seq.{append-snoc}
 use Rattle.codec.specs.Numbers.{groupsOf, numberBytes}
 use Rattle.codec.specs.NumberLaws.{last-group}
 use Rattle.codec.specs.Writing.{textOf}
 use Rattle.codec.proofs.Texts.{another}
-use borrow.Author.Needs.{needs}
 use Rattle.codec.proofs.writing.with_number.Statement.{statement}
 use Rattle.codec.proofs.writing.with_number.Tie as tie
 
@@ -35,11 +34,11 @@ loop-less : tie.Need-loop-less Inv-loop μ-loop
 loop-less c = omega arith
 
 loop-again : tie.Need-loop-again Inv-loop μ-loop
-loop-again c = 
+loop-again c =
     let l = c .before .before .loop in
     let g = another (l .inv .0) (l .rest) (omega arith) (l .inv .1) in
     let e : textOf (c .push .result) ++ groupsOf (g .0) (l .rest / 128) ≡ textOf (l .text) ++ groupsOf (l .inv .0) (l .rest) =
-        rw (c .push .ensures .0, append-snoc (textOf (l .text)) (l .rest % 128 + 128) (groupsOf (g .0) (l .rest / 128)), g .3) in
+    rw (c .push .ensures .0, append-snoc (textOf (l .text)) (l .rest % 128 + 128) (groupsOf (g .0) (l .rest / 128)), g .3) in
     (g .0, g .2, omega (arith, c .push .ensures .1, g .1, l .inv .2), e ∙ l .inv .3)
 
 cast-push-2 : tie.Need-cast-push-2 Inv-loop μ-loop
@@ -49,7 +48,7 @@ push-requires-2 : tie.Need-push-requires-2 Inv-loop μ-loop
 push-requires-2 c κs = omega arith
 
 returns : tie.Need-returns Inv-loop μ-loop
-returns c = 
+returns c =
     let l = c .before .before .loop in
     let e : textOf (c .push2 .result) ≡ textOf (l .text) ++ groupsOf (l .inv .0) (l .rest) = rw (c .push2 .ensures .0, last-group (l .inv .0) (l .rest) (omega arith)) in
     (e ∙ l .inv .3, omega (arith, c .push2 .ensures .1, l .inv .2))

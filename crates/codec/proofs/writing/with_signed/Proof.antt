@@ -1,5 +1,4 @@
 -- `writing::with_signed` meets its contract: a signed number is written as the number that stands for it.
-use native.Mathlib.Omega.{arith}
 use mathlib.Core.Path.{_∙_}
 use mir.Facts.{toZ-ofZ}
 use borrow.Author.Needs.{needs}
