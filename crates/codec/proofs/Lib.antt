@@ -1,3 +1,5 @@
 pub mod Integers
 mod Groups
 pub mod Fields
+mod Texts
+mod Ranges

@@ -5,3 +5,5 @@ pub mod Headers
 pub mod HeaderLaws
 pub mod Operations
 pub mod Bench
+pub mod OperationLaws
+pub mod Writing

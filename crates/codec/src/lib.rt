@@ -4,3 +4,4 @@ pub mod header;
 pub mod number;
 pub mod operation;
 pub mod refusal;
+pub mod writing;
