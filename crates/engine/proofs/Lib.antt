@@ -11,3 +11,4 @@ mod Cuts
 mod ByteSteps
 mod PlaceSteps
 mod LaneSteps
+mod LaneCounts

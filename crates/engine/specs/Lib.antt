@@ -32,4 +32,5 @@ pub mod CheckLaws
 pub mod LaneLaws
 pub mod ByteLaws
 pub mod Plans
+pub mod Operands
 pub mod Bench

@@ -1,7 +1,6 @@
 -- Lanes and addresses by value, as the code hands them on, and what is done at a list of addresses.
 --
 --   laneList, Narrow                     the lanes of a `Lanes`; lanes of `width` bytes
---   addressesOf                          the addresses of elements
 --   allWithin, fetchedAt, storedAt       every address lies inside memory; the values there; memory after lanes were written there
 --   stored-taken                         only as many addresses as there are lanes are written to
 --   within-elements, fetched-elements, stored-elements   at the addresses of elements: what a calculation says of the elements
@@ -16,6 +15,7 @@ use Rattle.engine.specs.Loops.{natural}
 use Rattle.engine.specs.Addresses.{address, inside}
 use Rattle.engine.specs.Memory.{valueAt, littleEndian, spot, fetch, stored}
 use Rattle.engine.specs.Calculate.{allInside}
+use Rattle.engine.specs.Places.{addressesOf}
 use Rattle.engine.specs.declared.stream.Pattern.{Pattern}
 use Rattle.engine.specs.declared.memory.Lanes.{Lanes}
 
@@ -26,10 +26,6 @@ laneList l = take (l .count) (l .values)
 -- every lane is a number of `width` bytes
 abbrev pub Narrow : ℕ → List ℕ → Type 0
 Narrow width xs = (k : ℕ) → getD xs k 0 < 2 ^ (8 * width)
-
--- the addresses of elements
-abbrev pub addressesOf : Pattern → ℕ → List (List ℕ) → List Bytes
-addressesOf p width vs = map (λ v. record { 0 = address p width v }) vs
 
 -- every address lies inside memory
 unfoldable pub allWithin : ℕ → ℕ → List Bytes → Bool
