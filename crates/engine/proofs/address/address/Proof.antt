@@ -10,10 +10,6 @@ use Rattle.engine.specs.Addresses.{offsetAt, strideAt, inBytes, addressU
 use Rattle.engine.specs.declared.stream.Pattern.{Pattern}
 use Rattle.engine.proofs.address.address.Statement.{statement}
 use Rattle.engine.proofs.address.address.Tie as tie
-use Rattle.engine.proofs.address.address.Reads as reads
-use Rattle.engine.proofs.address.address.Lts as lts
-use Rattle.engine.proofs.address.plus.Reads as plus-reads
-use Rattle.engine.proofs.address.term.Reads as term-reads
 
 abbrev Inv-loop : tie.InvT-loop
 Inv-loop p width index n sum₀ d₀ sum d = (d ≤ n) × (n ≤ 7) × (sum .0 ≡ addressUpTo p width index d) × (natAbs (sum .0) ≤ 2 ^ 20 + d * 2 ^ 52)
@@ -34,7 +30,8 @@ loop-holds : tie.Need-loop-holds Inv-loop μ-loop
 loop-holds c = (omega arith, c .before .before .pre .0 .shape .dims, up-to-none (c .before .before .args .p) (c .before .before .args .width) (c .before .before .args .index), omega (arith, c .before .before .pre .0 .base))
 
 term-requires : tie.Need-term-requires Inv-loop μ-loop
-term-requires c κs = let s = c .before .before .before .before in (s .pre .0, s .pre .1, omega arith, s .pre .2)
+term-requires c κs =
+    let s = c .before .before .before .before in (s .pre .0, s .pre .1, omega arith, s .pre .2)
 
 plus-requires : tie.Need-plus-requires Inv-loop μ-loop
 plus-requires c κs = (omega arith, omega (arith, c .term .ensures .most))
