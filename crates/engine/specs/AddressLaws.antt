@@ -1,5 +1,6 @@
 -- Where elements lie: how far, and the next in a row.
 --
+--   Is                        a number that is z, sign aside at most n
 --   Small                     indices of at most 4,096
 --   offset-most, stride-most  offsets and strides, modified, stay within 2^36
 --   bytes-most                a stride in bytes
@@ -30,6 +31,11 @@ use Rattle.engine.specs.declared.stream.Shape.{Shape}
 use Rattle.engine.specs.declared.stream.Pattern.{Pattern}
 
 -- ---- how far
+
+-- a number that is z, sign aside at most n
+pub record Is (z : ℤ) (n : ℕ) (r : ℤ) : Type 0 where
+  pub exact : r ≡ z
+  pub most : natAbs r ≤ n
 
 abs-neg : (n : ℕ) → natAbs (negℤ (pos n)) ≡ n
 abs-neg zero = refl

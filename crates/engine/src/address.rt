@@ -5,12 +5,11 @@ use codec::amounts::Bytes;
 use codec::amounts::Elements;
 use codec::operation::Behaviour;
 use codec::operation::Parameter;
-ghost use mathlib.Core.Path.{_≡_};
-ghost use Prim.Native.Nat.{ℕ, suc, _^_, _<_, _≤_};
+ghost use Prim.Native.Nat.{ℕ, suc, _+_, _^_, _<_, _≤_};
 ghost use lib.ListN.{getD, drop};
 ghost use lib.IntN.{natAbs, subℕ, _+ℤ_};
 ghost use Rattle.engine.specs.Addresses.{offsetAt, strideAt, inBytes};
-ghost use Rattle.engine.specs.AddressLaws.{Small};
+ghost use Rattle.engine.specs.AddressLaws.{Small, Is};
 ghost use Rattle.engine.specs.Good.{RangedPattern};
 
 // What modifiers move a parameter by.
@@ -19,14 +18,14 @@ struct Change(i64);
 // What adding modifiers add less what subtracting ones take.
 fn change_of(up: u64, down: u64) -> Change
     requires { ⌜ (up ≤ 34359738368) × (down ≤ 34359738368) ⌝ }
-    ensures { λ r. ⌜ (r .0 ≡ subℕ up down) × (natAbs (r .0) ≤ 2 ^ 35) ⌝ }
+    ensures { λ r. ⌜ Is (subℕ up down) (2 ^ 35) (r .0) ⌝ }
 {
     Change((up as i64) - (down as i64))
 }
 
 fn bytes_moved(a: Bytes, by: Change) -> Bytes
     requires { ⌜ (natAbs (a .0) ≤ 2 ^ 20) × (natAbs (by .0) ≤ 2 ^ 35) ⌝ }
-    ensures { λ r. ⌜ (r .0 ≡ a .0 +ℤ by .0) × (natAbs (r .0) ≤ 2 ^ 36) ⌝ }
+    ensures { λ r. ⌜ Is (a .0 +ℤ by .0) (2 ^ 36) (r .0) ⌝ }
 {
     let x = a.0;
     let y = by.0;
@@ -35,7 +34,7 @@ fn bytes_moved(a: Bytes, by: Change) -> Bytes
 
 fn elements_moved(a: Elements, by: Change) -> Elements
     requires { ⌜ (natAbs (a .0) ≤ 2 ^ 20) × (natAbs (by .0) ≤ 2 ^ 35) ⌝ }
-    ensures { λ r. ⌜ (r .0 ≡ a .0 +ℤ by .0) × (natAbs (r .0) ≤ 2 ^ 36) ⌝ }
+    ensures { λ r. ⌜ Is (a .0 +ℤ by .0) (2 ^ 36) (r .0) ⌝ }
 {
     let x = a.0;
     let y = by.0;
@@ -45,7 +44,7 @@ fn elements_moved(a: Elements, by: Change) -> Elements
 // The offset of dimension `d`, in bytes, where the dimensions outside it stand at the indices of `index` above `d`.
 pub(crate) fn offset_at(p: Pattern, index: [u64; 7], d: usize) -> Bytes
     requires { ⌜ RangedPattern p × (d < 7) × Small index ⌝ }
-    ensures { λ r. ⌜ (r .0 ≡ offsetAt p d (drop (suc d) index)) × (natAbs (r .0) ≤ 2 ^ 36) ⌝ }
+    ensures { λ r. ⌜ Is (offsetAt p d (drop (suc d) index)) (2 ^ 36) (r .0) ⌝ }
 {
     let s = p.shape;
     let offsets = p.offsets;
@@ -58,7 +57,7 @@ pub(crate) fn offset_at(p: Pattern, index: [u64; 7], d: usize) -> Bytes
 // Its stride, in elements.
 pub(crate) fn stride_at(p: Pattern, index: [u64; 7], d: usize) -> Elements
     requires { ⌜ RangedPattern p × (d < 7) × Small index ⌝ }
-    ensures { λ r. ⌜ (r .0 ≡ strideAt p d (drop (suc d) index)) × (natAbs (r .0) ≤ 2 ^ 36) ⌝ }
+    ensures { λ r. ⌜ Is (strideAt p d (drop (suc d) index)) (2 ^ 36) (r .0) ⌝ }
 {
     let s = p.shape;
     let strides = p.strides;
@@ -71,7 +70,7 @@ pub(crate) fn stride_at(p: Pattern, index: [u64; 7], d: usize) -> Elements
 // So many strides in bytes: the one place where elements become bytes.
 pub(crate) fn in_bytes(stride: Elements, index: u64, width: u64) -> Bytes
     requires { ⌜ (natAbs (stride .0) ≤ 2 ^ 36) × (index ≤ 4096) × (width ≤ 8) ⌝ }
-    ensures { λ r. ⌜ (r .0 ≡ inBytes (stride .0) index width) × (natAbs (r .0) ≤ 2 ^ 51) ⌝ }
+    ensures { λ r. ⌜ Is (inBytes (stride .0) index width) (2 ^ 51) (r .0) ⌝ }
 {
     let n = index * width;
     let x = stride.0;
@@ -81,28 +80,36 @@ pub(crate) fn in_bytes(stride: Elements, index: u64, width: u64) -> Bytes
 // The sum of two amounts of bytes.
 pub(crate) fn plus(a: Bytes, b: Bytes) -> Bytes
     requires { ⌜ (natAbs (a .0) ≤ 2 ^ 61) × (natAbs (b .0) ≤ 2 ^ 61) ⌝ }
-    ensures { λ r. ⌜ r .0 ≡ a .0 +ℤ b .0 ⌝ }
+    ensures { λ r. ⌜ Is (a .0 +ℤ b .0) (natAbs (a .0) + natAbs (b .0)) (r .0) ⌝ }
 {
     let x = a.0;
     let y = b.0;
     Bytes(x + y)
 }
 
-// What dimension `d` adds to the address: its offset, and its stride times its index.
+// What a dimension adds to the address: its offset, which counts bytes, and its stride times its index, in bytes.
+fn offset_and_stride(offset: Bytes, stride: Elements, index: u64, width: u64) -> Bytes
+    requires { ⌜ (natAbs (offset .0) ≤ 2 ^ 36) × (natAbs (stride .0) ≤ 2 ^ 36) × (index ≤ 4096) × (width ≤ 8) ⌝ }
+    ensures { λ r. ⌜ Is (offset .0 +ℤ inBytes (stride .0) index width) (2 ^ 52) (r .0) ⌝ }
+{
+    plus(offset, in_bytes(stride, index, width))
+}
+
+// What dimension `d` adds.
 fn term(p: Pattern, width: u64, index: [u64; 7], d: usize) -> Bytes
     requires { ⌜ RangedPattern p × (width ≤ 8) × (d < 7) × Small index ⌝ }
-    ensures { λ r. ⌜ (r .0 ≡ offsetAt p d (drop (suc d) index) +ℤ inBytes (strideAt p d (drop (suc d) index)) (getD index d 0) width) × (natAbs (r .0) ≤ 2 ^ 52) ⌝ }
+    ensures { λ r. ⌜ Is (offsetAt p d (drop (suc d) index) +ℤ inBytes (strideAt p d (drop (suc d) index)) (getD index d 0) width) (2 ^ 52) (r .0) ⌝ }
 {
     let offset = offset_at(p, index, d);
     let stride = stride_at(p, index, d);
     let i = index[d];
-    plus(offset, in_bytes(stride, i, width))
+    offset_and_stride(offset, stride, i, width)
 }
 
 // The address of the element at the indices `index`: base + the sum over dimensions of (offset + stride x index x width).
 pub(crate) fn address(p: Pattern, width: u64, index: [u64; 7]) -> Bytes
     requires { ⌜ RangedPattern p × (width ≤ 8) × Small index ⌝ }
-    ensures { λ r. ⌜ (r .0 ≡ Rattle.engine.specs.Addresses.address p width index) × (natAbs (r .0) ≤ 2 ^ 55) ⌝ }
+    ensures { λ r. ⌜ Is (Rattle.engine.specs.Addresses.address p width index) (2 ^ 55) (r .0) ⌝ }
 {
     let s = p.shape;
     let n = s.dims;

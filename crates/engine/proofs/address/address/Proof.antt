@@ -6,15 +6,10 @@ use mathlib.Core.List.{List}
 use native.Mathlib.Numerals.{add-one}
 use lib.ListN.{getD, drop}
 use lib.IntN.{natAbs, _+ℤ_}
-use Rattle.codec.proofs.Integers.{abs-add}
 use Rattle.engine.specs.Addresses.{offsetAt, strideAt, inBytes, addressUpTo}
 use Rattle.engine.specs.declared.stream.Pattern.{Pattern}
 use Rattle.engine.proofs.address.address.Statement.{statement}
 use Rattle.engine.proofs.address.address.Tie as tie
-use Rattle.engine.proofs.address.address.Reads as reads
-use Rattle.engine.proofs.address.address.Lts as lts
-use Rattle.engine.proofs.address.plus.Reads as plus-reads
-use Rattle.engine.proofs.address.term.Reads as term-reads
 
 abbrev Inv-loop : tie.InvT-loop
 Inv-loop p width index n sum₀ d₀ sum d = (d ≤ n) × (n ≤ 7) × (sum .0 ≡ addressUpTo p width index d) × (natAbs (sum .0) ≤ 2 ^ 20 + d * 2 ^ 52)
@@ -35,10 +30,11 @@ loop-holds : tie.Need-loop-holds Inv-loop μ-loop
 loop-holds c = (omega arith, c .before .before .pre .0 .shape .dims, up-to-none (c .before .before .args .p) (c .before .before .args .width) (c .before .before .args .index), omega (arith, c .before .before .pre .0 .base))
 
 term-requires : tie.Need-term-requires Inv-loop μ-loop
-term-requires c κs = let s = c .before .before .before .before in (s .pre .0, s .pre .1, omega arith, s .pre .2)
+term-requires c κs =
+    let s = c .before .before .before .before in (s .pre .0, s .pre .1, omega arith, s .pre .2)
 
 plus-requires : tie.Need-plus-requires Inv-loop μ-loop
-plus-requires c κs = (omega arith, omega (arith, c .term .ensures .1))
+plus-requires c κs = (omega arith, omega (arith, c .term .ensures .most))
 
 add-d : tie.Need-add-d Inv-loop μ-loop
 add-d c = omega arith
@@ -47,21 +43,23 @@ loop-less : tie.Need-loop-less Inv-loop μ-loop
 loop-less c = omega arith
 
 loop-again : tie.Need-loop-again Inv-loop μ-loop
-loop-again c = let s = c .before .before .before .before .before .before in
+loop-again c =
+    let s = c .before .before .before .before .before .before in
     let l = c .before .before .before .loop in
     let t = c .before .term .result .0 in
     let e : l .sum .0 +ℤ t ≡ addressUpTo (s .args .p) (s .args .width) (s .args .index) (l .d + 1) =
     ap (λ x. x +ℤ t) (l .inv .2)
-    ∙ ap (λ x. addressUpTo (s .args .p) (s .args .width) (s .args .index) (l .d) +ℤ x) (c .before .term .ensures .0)
+    ∙ ap (λ x. addressUpTo (s .args .p) (s .args .width) (s .args .index) (l .d) +ℤ x) (c .before .term .ensures .exact)
     ∙ sym (up-to-next (s .args .p) (s .args .width) (s .args .index) (l .d)) in
-    let m = c .before .term .ensures .1 in
-    let z : natAbs (l .sum .0 +ℤ t) ≤ 2 ^ 20 + (l .d + 1) * 2 ^ 52 = omega (arith, abs-add (l .sum .0) t) in
-    (omega arith, omega arith, c .plus .ensures ∙ e, rw (c .plus .ensures) z)
+    let n = c .before .term .ensures .most in
+    let m = c .plus .ensures .most in
+    (omega arith, omega arith, c .plus .ensures .exact ∙ e, omega arith)
 
 returns : tie.Need-returns Inv-loop μ-loop
-returns c = let s = c .before .before .before .before in
+returns c =
+    let s = c .before .before .before .before in
     let e : c .before .loop .d ≡ s .args .p .shape .dims = omega arith in
-    (c .before .loop .inv .2 ∙ ap (addressUpTo (s .args .p) (s .args .width) (s .args .index)) e, omega arith)
+    record { exact = c .before .loop .inv .2 ∙ ap (addressUpTo (s .args .p) (s .args .width) (s .args .index)) e; most = omega arith }
 
 pub address-spec : {M : Type 1} → statement M
 address-spec =

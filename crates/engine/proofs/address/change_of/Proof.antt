@@ -16,9 +16,10 @@ sub-t5 : tie.Need-sub-t5
 sub-t5 c = minus-fits (c .args .up) (c .args .down) (omega arith) (omega arith)
 
 returns : tie.Need-returns
-returns c = let u = c .args .up in
+returns c =
+    let u = c .args .up in
     let d = c .args .down in
-    rw (minus-exact u d (omega arith) (omega arith)) (refl, minus-most u d 34359738368 (c .pre .0) (c .pre .1))
+    rw (minus-exact u d (omega arith) (omega arith)) (record { exact = refl; most = minus-most u d 34359738368 (c .pre .0) (c .pre .1) })
 
 pub change-of-spec : {M : Type 1} → statement M
 change-of-spec = tie.close (tie.spec cast-t3 cast-t4 sub-t5 returns)

@@ -10,9 +10,10 @@ add-t5 : tie.Need-add-t5
 add-t5 c = sum-fits (c .before .before .args .a .0) (c .before .before .args .by .0) (omega arith) (omega arith)
 
 returns : tie.Need-returns
-returns c = let x = c .before .before .args .a .0 in
+returns c =
+    let x = c .before .before .args .a .0 in
     let y = c .before .before .args .by .0 in
-    rw (sum-exact x y (omega arith) (omega arith)) (refl, omega (arith, abs-add x y))
+    rw (sum-exact x y (omega arith) (omega arith)) (record { exact = refl; most = omega (arith, abs-add x y) })
 
 pub elements-moved-spec : {M : Type 1} → statement M
 elements-moved-spec = tie.close (tie.spec add-t5 returns)

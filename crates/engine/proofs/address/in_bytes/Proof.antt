@@ -25,13 +25,15 @@ small c =
     bytes-most (s .args .stride .0) (s .args .index) (s .args .width) (s .pre .0) (s .pre .1) (s .pre .2)
 
 mul-t7 : tie.Need-mul-t7
-mul-t7 c = let a = c .before .args in
+mul-t7 c =
+    let a = c .before .args in
     rw (back (a .stride .0) (omega arith), cast (a .index * a .width) (omega (arith, count (c .before)))) (fits _ (omega (arith, small c)))
 
 returns : tie.Need-returns
-returns c = let a = c .before .args in
+returns c =
+    let a = c .before .args in
     rw (back (a .stride .0) (omega arith), cast (a .index * a .width) (omega (arith, count (c .before))), back (inBytes (a .stride .0) (a .index) (a .width)) (omega (arith, small c)))
-    (refl, small c)
+    (record { exact = refl; most = small c })
 
 pub in-bytes-spec : {M : Type 1} → statement M
 in-bytes-spec = tie.close (tie.spec mul-n cast-t6 mul-t7 returns)

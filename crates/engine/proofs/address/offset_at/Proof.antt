@@ -27,7 +27,7 @@ change-of-requires : tie.Need-change-of-requires
 change-of-requires c κs = search needs
 
 bytes-moved-requires : tie.Need-bytes-moved-requires
-bytes-moved-requires c κs = (c .before .before .before .before .before .before .pre .0 .offset (c .before .before .before .before .before .before .args .d), c .change-of .ensures .1)
+bytes-moved-requires c κs = (c .before .before .before .before .before .before .pre .0 .offset (c .before .before .before .before .before .before .args .d), c .change-of .ensures .most)
 
 returns : tie.Need-returns
 returns c =
@@ -35,8 +35,8 @@ returns c =
     let p = s .args .p in
     let h : c .before .change-of .result .0 ≡ added Offset (s .args .d) (drop (suc (s .args .d)) (s .args .index)) (modifiersOf (p .shape)) =
     gain-change Offset (s .args .d) (drop (suc (s .args .d)) (s .args .index)) (modifiersOf (p .shape)) (c .before .before .before .gained .result) (c .before .before .gained2 .result)
-    (c .before .change-of .result .0) (c .before .before .before .gained .ensures .0) (c .before .before .gained2 .ensures .0) (c .before .change-of .ensures .0) in
-    (c .bytes-moved .ensures .0 ∙ ap (λ z. getD (p .offsets) (s .args .d) noBytes .0 +ℤ z) h, c .bytes-moved .ensures .1)
+    (c .before .change-of .result .0) (c .before .before .before .gained .ensures .0) (c .before .before .gained2 .ensures .0) (c .before .change-of .ensures .exact) in
+    record { exact = c .bytes-moved .ensures .exact ∙ ap (λ z. getD (p .offsets) (s .args .d) noBytes .0 +ℤ z) h; most = c .bytes-moved .ensures .most }
 
 pub offset-at-spec : {M : Type 1} → statement M
 offset-at-spec =

@@ -27,7 +27,7 @@ change-of-requires : tie.Need-change-of-requires
 change-of-requires c κs = search needs
 
 elements-moved-requires : tie.Need-elements-moved-requires
-elements-moved-requires c κs = (c .before .before .before .before .before .before .pre .0 .stride (c .before .before .before .before .before .before .args .d), c .change-of .ensures .1)
+elements-moved-requires c κs = (c .before .before .before .before .before .before .pre .0 .stride (c .before .before .before .before .before .before .args .d), c .change-of .ensures .most)
 
 returns : tie.Need-returns
 returns c =
@@ -35,8 +35,8 @@ returns c =
     let p = s .args .p in
     let h : c .before .change-of .result .0 ≡ added Stride (s .args .d) (drop (suc (s .args .d)) (s .args .index)) (modifiersOf (p .shape)) =
     gain-change Stride (s .args .d) (drop (suc (s .args .d)) (s .args .index)) (modifiersOf (p .shape)) (c .before .before .before .gained .result) (c .before .before .gained2 .result)
-    (c .before .change-of .result .0) (c .before .before .before .gained .ensures .0) (c .before .before .gained2 .ensures .0) (c .before .change-of .ensures .0) in
-    (c .elements-moved .ensures .0 ∙ ap (λ z. getD (p .strides) (s .args .d) noElements .0 +ℤ z) h, c .elements-moved .ensures .1)
+    (c .before .change-of .result .0) (c .before .before .before .gained .ensures .0) (c .before .before .gained2 .ensures .0) (c .before .change-of .ensures .exact) in
+    record { exact = c .elements-moved .ensures .exact ∙ ap (λ z. getD (p .strides) (s .args .d) noElements .0 +ℤ z) h; most = c .elements-moved .ensures .most }
 
 pub stride-at-spec : {M : Type 1} → statement M
 stride-at-spec =

@@ -19,16 +19,19 @@ same : (c : tie.Else1) → sameParameter (c .before .before .args .m .parameter)
 same c = sym (c .before .same-parameter .ensures) ∙ not-false (c .before .same-parameter .result) (c .if1 .left)
 
 returns : tie.Need-returns
-returns c = let a = c .before .before .args in (sym (gain-other (a .q) (a .b) (a .d) (drop (suc (a .d)) (a .t4)) (a .m) (sym (c .before .same-parameter .ensures) ∙ not-true (c .before .same-parameter .result) (c .if1 .taken))), omega arith)
+returns c =
+    let a = c .before .before .args in (sym (gain-other (a .q) (a .b) (a .d) (drop (suc (a .d)) (a .t4)) (a .m) (sym (c .before .same-parameter .ensures) ∙ not-true (c .before .same-parameter .result) (c .if1 .taken))), omega arith)
 
 returns-2 : tie.Need-returns-2
-returns-2 c = let a = c .before .before .before .before .args in (sym (gain-elsewhere (a .q) (a .b) (a .d) (drop (suc (a .d)) (a .t4)) (a .m) (same (c .before .before)) (λ e. omega arith)), omega arith)
+returns-2 c =
+    let a = c .before .before .before .before .args in (sym (gain-elsewhere (a .q) (a .b) (a .d) (drop (suc (a .d)) (a .t4)) (a .m) (same (c .before .before)) (λ e. omega arith)), omega arith)
 
 same-behaviour-requires : tie.Need-same-behaviour-requires
 same-behaviour-requires c κs = search needs
 
 returns-3 : tie.Need-returns-3
-returns-3 c = let a = c .before .before .before .before .before .before .args in (sym (gainOf-off (a .q) (a .b) (a .d) (drop (suc (a .d)) (a .t4)) (a .m) (sym (c .before .same-behaviour .ensures) ∙ not-true (c .before .same-behaviour .result) (c .if3 .taken))), omega arith)
+returns-3 c =
+    let a = c .before .before .before .before .before .before .args in (sym (gainOf-off (a .q) (a .b) (a .d) (drop (suc (a .d)) (a .t4)) (a .m) (sym (c .before .same-behaviour .ensures) ∙ not-true (c .before .same-behaviour .result) (c .if3 .taken))), omega arith)
 
 mul-result : tie.Need-mul-result
 mul-result c = search needs
@@ -48,7 +51,8 @@ mul-result-2 : tie.Need-mul-result-2
 mul-result-2 c = omega (arith, small c)
 
 returns-4 : tie.Need-returns-4
-returns-4 c = let s = c .before .before .before .before .before .before .before in let a = s .args in let h : a .m .target ≡ a .d = omega arith in (sym (gain-here (a .q) (a .b) (a .d) (a .t4) (a .m) (same (c .before .before .before .before .before)) h (sym (c .before .before .same-behaviour .ensures) ∙ not-false (c .before .before .same-behaviour .result) (c .before .if3 .left)) (s .pre .0 .below)), small c)
+returns-4 c =
+    let s = c .before .before .before .before .before .before .before in let a = s .args in let h : a .m .target ≡ a .d = omega arith in (sym (gain-here (a .q) (a .b) (a .d) (a .t4) (a .m) (same (c .before .before .before .before .before)) h (sym (c .before .before .same-behaviour .ensures) ∙ not-false (c .before .before .same-behaviour .result) (c .before .if3 .left)) (s .pre .0 .below)), small c)
 
 pub gain-of-spec : {M : Type 1} → statement M
 gain-of-spec =

@@ -25,7 +25,8 @@ array-copy-out-m : tie.Need-array-copy-out-m Inv-loop μ-loop
 array-copy-out-m c = omega arith
 
 gain-of-requires : tie.Need-gain-of-requires Inv-loop μ-loop
-gain-of-requires c κs = let s = c .before .before .before .before in let m = s .pre .0 .modifier (c .before .before .loop .k) (omega arith) in (record { below = m .below; owned = omega (arith, m .owned, s .pre .0 .dims); displaced = m .displaced }, s .pre .1)
+gain-of-requires c κs =
+    let s = c .before .before .before .before in let m = s .pre .0 .modifier (c .before .before .loop .k) (omega arith) in (record { below = m .below; owned = omega (arith, m .owned, s .pre .0 .dims); displaced = m .displaced }, s .pre .1)
 
 add-sum : tie.Need-add-sum Inv-loop μ-loop
 add-sum c = omega arith
@@ -37,13 +38,15 @@ loop-less : tie.Need-loop-less Inv-loop μ-loop
 loop-less c = omega arith
 
 loop-again : tie.Need-loop-again Inv-loop μ-loop
-loop-again c = let s = c .before .before .before .before .before in
+loop-again c =
+    let s = c .before .before .before .before .before in
     let l = c .before .before .before .loop in
     let n = gain-next (s .args .q) (s .args .b) (s .args .d) (drop (suc (s .args .d)) (s .args .index)) (s .args .s .modifiers) (l .k) (omega (arith, s .pre .0 .modifiers)) in
     (omega arith, omega arith, omega (arith, n, l .inv .2, c .gain-of .ensures .0), omega arith)
 
 returns : tie.Need-returns Inv-loop μ-loop
-returns c = let s = c .before .before .before .args in
+returns c =
+    let s = c .before .before .before .args in
     let e : c .before .loop .k ≡ s .s .mods = omega arith in
     (c .before .loop .inv .2 ∙ ap (λ k. gain (s .q) (s .b) (s .d) (drop (suc (s .d)) (s .index)) (take k (s .s .modifiers))) e, omega arith)
 

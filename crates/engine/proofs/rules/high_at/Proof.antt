@@ -20,7 +20,8 @@ add-result : tie.Need-add-result
 add-result c = omega (arith, c .before .before .pre .0 .size (c .before .before .args .d))
 
 returns : tie.Need-returns
-returns c = let s = c .before .before in
+returns c =
+    let s = c .before .before in
     omega (arith, high-nat (s .args .s) (s .args .d) (drop (suc (s .args .d)) (s .args .lasts)), c .gained .ensures .0)
 
 pub high-at-spec : {M : Type 1} → statement M

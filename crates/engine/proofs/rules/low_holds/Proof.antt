@@ -23,7 +23,8 @@ gained-requires : tie.Need-gained-requires
 gained-requires c κs = search needs
 
 returns : tie.Need-returns
-returns c = let s = c .before .before in
+returns c =
+    let s = c .before .before in
     let size = getD (s .args .s .sizes) (s .args .d) 0 in
     let outer = drop (suc (s .args .d)) (s .args .lasts) in
     ap (λ n. leb n size) (c .gained .ensures .0) ∙ nonneg-leb (gain Size Subtract (s .args .d) outer (modifiersOf (s .args .s))) size

@@ -25,10 +25,12 @@ sub-d : tie.Need-sub-d Inv-loop μ-loop
 sub-d c = omega arith
 
 low-holds-requires : tie.Need-low-holds-requires Inv-loop μ-loop
-low-holds-requires c κs = let w = c .before .loop .inv .0 in (c .before .before .pre, omega (arith, c .before .before .pre .dims, w .within), w .small)
+low-holds-requires c κs =
+    let w = c .before .loop .inv .0 in (c .before .before .pre, omega (arith, c .before .before .pre .dims, w .within), w .small)
 
 returns : tie.Need-returns Inv-loop μ-loop
-returns c = let l = c .before .before .before .loop in
+returns c =
+    let l = c .before .before .before .loop in
     let e = sym (c .before .low-holds .ensures) ∙ not-true (c .before .low-holds .result) (c .if1 .taken) in
     sym (walk-low (c .before .before .before .before .args .s) (l .d) (l .lasts) (l .inv .0) (omega arith) e)
 
@@ -38,10 +40,12 @@ low : (c : tie.Else1 Inv-loop μ-loop)
 low c = sym (c .before .low-holds .ensures) ∙ not-false (c .before .low-holds .result) (c .if1 .left)
 
 high-at-requires : tie.Need-high-at-requires Inv-loop μ-loop
-high-at-requires c κs = let w = c .before .before .before .loop .inv .0 in (c .before .before .before .before .pre, omega (arith, c .before .before .before .before .pre .dims, w .within), w .small)
+high-at-requires c κs =
+    let w = c .before .before .before .loop .inv .0 in (c .before .before .before .before .pre, omega (arith, c .before .before .before .before .pre .dims, w .within), w .small)
 
 returns-2 : tie.Need-returns-2 Inv-loop μ-loop
-returns-2 c = let l = c .before .before .before .before .before .loop in
+returns-2 c =
+    let l = c .before .before .before .before .before .loop in
     let h = c .before .high-at .ensures in
     sym (walk-high (c .before .before .before .before .before .before .args .s) (l .d) (l .lasts) (l .inv .0) (omega arith) (low (c .before .before)) (omega arith))
 
@@ -49,16 +53,19 @@ last-index-requires : tie.Need-last-index-requires Inv-loop μ-loop
 last-index-requires c κs = search needs
 
 mul-lasts : tie.Need-mul-lasts Inv-loop μ-loop
-mul-lasts c = let w = c .before .before .before .before .before .before .loop .inv .0 in omega (arith, w .within, c .before .before .before .before .before .before .before .pre .dims)
+mul-lasts c =
+    let w = c .before .before .before .before .before .before .loop .inv .0 in omega (arith, w .within, c .before .before .before .before .before .before .before .pre .dims)
 
 array-write-lasts : tie.Need-array-write-lasts Inv-loop μ-loop
-array-write-lasts c = let w = c .before .before .before .before .before .before .loop .inv .0 in omega (arith, w .within, c .before .before .before .before .before .before .before .pre .dims)
+array-write-lasts c =
+    let w = c .before .before .before .before .before .before .loop .inv .0 in omega (arith, w .within, c .before .before .before .before .before .before .before .pre .dims)
 
 loop-less : tie.Need-loop-less Inv-loop μ-loop
 loop-less c = omega arith
 
 loop-again : tie.Need-loop-again Inv-loop μ-loop
-loop-again c = let s = c .before .before .before .before .before .before .before in
+loop-again c =
+    let s = c .before .before .before .before .before .before .before in
     let l = c .before .before .before .before .before .before .loop in
     let h = c .before .before .high-at .ensures in (
       rw (c .last-index .ensures) (walked-next (s .args .s) (s .pre .dims) (l .d) (l .lasts) (l .inv .0) (omega arith) (c .before .before .high-at .result) h (omega arith)),
@@ -66,7 +73,8 @@ loop-again c = let s = c .before .before .before .before .before .before .before
     )
 
 returns-3 : tie.Need-returns-3 Inv-loop μ-loop
-returns-3 c = let s = c .before .before .args .s in
+returns-3 c =
+    let s = c .before .before .args .s in
     let e : c .before .loop .d ≡ 0 = omega arith in
     let z : s .dims ≡ s .dims - 0 = omega arith in
     sym (ap (lowOrHighFrom s 0) z ∙ ap (λ k. lowOrHighFrom s k (s .dims - k)) (sym e) ∙ c .before .loop .inv .1)

@@ -24,7 +24,8 @@ sub-d : tie.Need-sub-d Inv-loop μ-loop
 sub-d c = omega arith
 
 high-at-requires : tie.Need-high-at-requires Inv-loop μ-loop
-high-at-requires c κs = let w = c .before .loop .inv .0 in (c .before .before .pre .0, omega (arith, c .before .before .pre .0 .dims, w .within), w .small)
+high-at-requires c κs =
+    let w = c .before .loop .inv .0 in (c .before .before .pre .0, omega (arith, c .before .before .pre .0 .dims, w .within), w .small)
 
 larger-requires : tie.Need-larger-requires Inv-loop μ-loop
 larger-requires c κs = search needs
@@ -53,7 +54,8 @@ mul-over : tie.Need-mul-over Inv-loop μ-loop
 mul-over c = omega (arith, small c)
 
 returns : tie.Need-returns Inv-loop μ-loop
-returns c = let l = c .before .before .before .before .loop in
+returns c =
+    let l = c .before .before .before .before .loop in
     let s = c .before .before .before .before .before .args .s in
     let w = l .inv .0 in
     let n = next (c .before) in
@@ -63,16 +65,19 @@ last-index-requires : tie.Need-last-index-requires Inv-loop μ-loop
 last-index-requires c κs = search needs
 
 mul-lasts : tie.Need-mul-lasts Inv-loop μ-loop
-mul-lasts c = let w = c .before .before .before .before .before .loop .inv .0 in omega (arith, w .within, c .before .before .before .before .before .before .pre .0 .dims)
+mul-lasts c =
+    let w = c .before .before .before .before .before .loop .inv .0 in omega (arith, w .within, c .before .before .before .before .before .before .pre .0 .dims)
 
 array-write-lasts : tie.Need-array-write-lasts Inv-loop μ-loop
-array-write-lasts c = let w = c .before .before .before .before .before .loop .inv .0 in omega (arith, w .within, c .before .before .before .before .before .before .pre .0 .dims)
+array-write-lasts c =
+    let w = c .before .before .before .before .before .loop .inv .0 in omega (arith, w .within, c .before .before .before .before .before .before .pre .0 .dims)
 
 loop-less : tie.Need-loop-less Inv-loop μ-loop
 loop-less c = omega arith
 
 loop-again : tie.Need-loop-again Inv-loop μ-loop
-loop-again c = let s = c .before .before .before .before .before .before in
+loop-again c =
+    let s = c .before .before .before .before .before .before in
     let l = c .before .before .before .before .before .loop in
     let h = c .before .before .before .high-at .ensures in (
       rw (c .last-index .ensures) (walked-next (s .args .s) (s .pre .0 .dims) (l .d) (l .lasts) (l .inv .0) (omega arith) (c .before .before .before .high-at .result) h (most (c .before .before .before))),
@@ -81,7 +86,8 @@ loop-again c = let s = c .before .before .before .before .before .before in
     )
 
 returns-2 : tie.Need-returns-2 Inv-loop μ-loop
-returns-2 c = let s = c .before .before .args .s in
+returns-2 c =
+    let s = c .before .before .args .s in
     let e : c .before .loop .d ≡ 0 = omega arith in
     let z : s .dims - 0 ≡ s .dims = omega arith in
     let p : c .before .loop .over ≡ product (highsOf s) = c .before .loop .inv .1 ∙ ap (λ k. product (highs s k (s .dims - k))) e ∙ ap (λ k. product (highs s 0 k)) z in

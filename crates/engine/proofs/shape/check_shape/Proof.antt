@@ -17,7 +17,8 @@ use Rattle.engine.proofs.shape.check_shape.Statement.{statement}
 use Rattle.engine.proofs.shape.check_shape.Tie as tie
 
 few : (c : tie.Else2) → (ltb 7 (c .before .before .before .before .before .before .args .s .dims) || ltb 8 (c .before .before .before .before .before .before .args .s .mods)) ≡ false
-few c = let s = c .before .before .before .before .before .before .args .s in rw (le-ltb 7 (s .dims) (omega arith), le-ltb 8 (s .mods) (omega arith))
+few c =
+    let s = c .before .before .before .before .before .before .args .s in rw (le-ltb 7 (s .dims) (omega arith), le-ltb 8 (s .mods) (omega arith))
 
 small : (c : tie.Else3) → some tooLarge (c .before .before .before .before .before .before .before .before .args .s .sizes) ≡ false
 small c = sym (c .before .some-too-large .ensures) ∙ c .if3 .left
@@ -53,54 +54,63 @@ bounded c = sym (c .before .low-or-high .ensures) ∙ c .if7 .left
 
 returns : tie.Need-returns
 unfolding checkShape firstOf
-returns c = let s = c .before .before .before .before .args .s in rw (lt-ltb 7 (s .dims) (c .if1 .taken))
+returns c =
+    let s = c .before .before .before .before .args .s in rw (lt-ltb 7 (s .dims) (c .if1 .taken))
 
 returns-2 : tie.Need-returns-2
 unfolding checkShape firstOf
-returns-2 c = let s = c .before .before .before .before .before .before .args .s in rw (le-ltb 7 (s .dims) (omega arith), lt-ltb 8 (s .mods) (c .if2 .taken))
+returns-2 c =
+    let s = c .before .before .before .before .before .before .args .s in rw (le-ltb 7 (s .dims) (omega arith), lt-ltb 8 (s .mods) (c .if2 .taken))
 
 some-too-large-requires : tie.Need-some-too-large-requires
 some-too-large-requires c κs = search needs
 
 returns-3 : tie.Need-returns-3
 unfolding checkShape firstOf
-returns-3 c = let e = sym (c .before .some-too-large .ensures) ∙ c .if3 .taken in rw (few (c .before .before), e)
+returns-3 c =
+    let e = sym (c .before .some-too-large .ensures) ∙ c .if3 .taken in rw (few (c .before .before), e)
 
 some-far-moved-requires : tie.Need-some-far-moved-requires
 some-far-moved-requires c κs = search needs
 
 returns-4 : tie.Need-returns-4
 unfolding checkShape firstOf
-returns-4 c = let e = sym (c .before .some-far-moved .ensures) ∙ c .if4 .taken in rw (few (c .before .before .before .before), small (c .before .before), e)
+returns-4 c =
+    let e = sym (c .before .some-far-moved .ensures) ∙ c .if4 .taken in rw (few (c .before .before .before .before), small (c .before .before), e)
 
 returns-5 : tie.Need-returns-5
 unfolding checkShape firstOf
-returns-5 c = let s = c .before .before .before .before .before .before .before .before .before .before .before .before .args .s in rw (few (c .before .before .before .before .before .before), in-range (c .before .before), eq-eqb (s .dims) 0 (omega arith))
+returns-5 c =
+    let s = c .before .before .before .before .before .before .before .before .before .before .before .before .args .s in rw (few (c .before .before .before .before .before .before), in-range (c .before .before), eq-eqb (s .dims) 0 (omega arith))
 
 some-misplaced-requires : tie.Need-some-misplaced-requires
 some-misplaced-requires c κs = search needs
 
 returns-6 : tie.Need-returns-6
 unfolding checkShape firstOf
-returns-6 c = let e = sym (c .before .some-misplaced .ensures) ∙ c .if6 .taken in rw (few (c .before .before .before .before .before .before .before .before), in-range (c .before .before .before .before), some-dims (c .before .before), e)
+returns-6 c =
+    let e = sym (c .before .some-misplaced .ensures) ∙ c .if6 .taken in rw (few (c .before .before .before .before .before .before .before .before), in-range (c .before .before .before .before), some-dims (c .before .before), e)
 
 low-or-high-requires : tie.Need-low-or-high-requires
 low-or-high-requires c κs = ranged c
 
 returns-7 : tie.Need-returns-7
 unfolding checkShape firstOf
-returns-7 c = let e = sym (c .before .low-or-high .ensures) ∙ c .if7 .taken in rw (few (c .before .before .before .before .before .before .before .before .before .before), in-range (c .before .before .before .before .before .before), placed (c .before .before), e)
+returns-7 c =
+    let e = sym (c .before .low-or-high .ensures) ∙ c .if7 .taken in rw (few (c .before .before .before .before .before .before .before .before .before .before), in-range (c .before .before .before .before .before .before), placed (c .before .before), e)
 
 product-over-requires : tie.Need-product-over-requires
 product-over-requires c κs = (ranged (c .before .before), sym (c .before .low-or-high .ensures) ∙ c .if7 .left)
 
 returns-8 : tie.Need-returns-8
 unfolding checkShape firstOf
-returns-8 c = let e = sym (c .before .product-over .ensures) ∙ c .if8 .taken in rw (few (c .before .before .before .before .before .before .before .before .before .before .before .before), in-range (c .before .before .before .before .before .before .before .before), placed (c .before .before .before .before), bounded (c .before .before), e)
+returns-8 c =
+    let e = sym (c .before .product-over .ensures) ∙ c .if8 .taken in rw (few (c .before .before .before .before .before .before .before .before .before .before .before .before), in-range (c .before .before .before .before .before .before .before .before), placed (c .before .before .before .before), bounded (c .before .before), e)
 
 returns-9 : tie.Need-returns-9
 unfolding checkShape firstOf
-returns-9 c = let e = sym (c .before .product-over .ensures) ∙ c .if8 .left in rw (few (c .before .before .before .before .before .before .before .before .before .before .before .before), in-range (c .before .before .before .before .before .before .before .before), placed (c .before .before .before .before), bounded (c .before .before), e)
+returns-9 c =
+    let e = sym (c .before .product-over .ensures) ∙ c .if8 .left in rw (few (c .before .before .before .before .before .before .before .before .before .before .before .before), in-range (c .before .before .before .before .before .before .before .before), placed (c .before .before .before .before), bounded (c .before .before), e)
 
 pub check-shape-spec : {M : Type 1} → statement M
 check-shape-spec =

@@ -33,7 +33,8 @@ lengthy : (c : tie.Start Inv-loop μ-loop) → length (c .args .t1) ≡ 8
 lengthy c = search (needs, unmapped)
 
 returns : tie.Need-returns Inv-loop μ-loop
-returns c = let s = c .before .before .before .before .before in
+returns c =
+    let s = c .before .before .before .before .before in
     let l = s .args .t1 in
     let k = c .before .before .before .before .loop .k in
     sym (first-at farMoved noModifier l (s .args .n) k (omega (arith, lengthy s)) (omega arith) (lt-ltb 1048576 (getD l k noModifier .displacement) (c .if1 .taken)))
@@ -45,13 +46,15 @@ loop-less : tie.Need-loop-less Inv-loop μ-loop
 loop-less c = omega arith
 
 loop-again : tie.Need-loop-again Inv-loop μ-loop
-loop-again c = let l = c .before .before .before .before .before .args .t1 in
+loop-again c =
+    let l = c .before .before .before .before .before .args .t1 in
     let k = c .before .before .before .before .loop .k in
     let e : farMoved (getD l k noModifier) ≡ false = le-ltb 1048576 (getD l k noModifier .displacement) (omega arith) in
     (omega arith, below-more (λ j. farMoved (getD l j noModifier) ≡ false) k (c .before .before .before .before .loop .inv .1) e)
 
 returns-2 : tie.Need-returns-2 Inv-loop μ-loop
-returns-2 c = let s = c .before .before in
+returns-2 c =
+    let s = c .before .before in
     sym (first-none farMoved noModifier (s .args .t1) (s .args .n) (omega (arith, lengthy s)) (λ j h. c .before .loop .inv .1 j (omega arith)))
 
 pub some-far-moved-spec : {M : Type 1} → statement M

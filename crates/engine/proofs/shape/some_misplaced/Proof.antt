@@ -35,7 +35,8 @@ lengthy : (c : tie.Start Inv-loop μ-loop) → length (c .args .t2) ≡ 8
 lengthy c = search (needs, unmapped)
 
 returns : tie.Need-returns Inv-loop μ-loop
-returns c = let s = c .before .before .before .before .before in
+returns c =
+    let s = c .before .before .before .before .before in
     sym (first-at (misplacedIn (s .args .dims)) noModifier (s .args .t2) (s .args .n) (c .before .before .before .before .loop .k) (omega (arith, lengthy s)) (omega arith)
     (sym (c .before .misplaced-in .ensures) ∙ c .if1 .taken))
 
@@ -46,12 +47,14 @@ loop-less : tie.Need-loop-less Inv-loop μ-loop
 loop-less c = omega arith
 
 loop-again : tie.Need-loop-again Inv-loop μ-loop
-loop-again c = let s = c .before .before .before .before .before in
+loop-again c =
+    let s = c .before .before .before .before .before in
     let l = c .before .before .before .before .loop in
     (omega arith, below-more (λ j. misplacedIn (s .args .dims) (getD (s .args .t2) j noModifier) ≡ false) (l .k) (l .inv .1) (sym (c .before .misplaced-in .ensures) ∙ c .if1 .left))
 
 returns-2 : tie.Need-returns-2 Inv-loop μ-loop
-returns-2 c = let s = c .before .before in
+returns-2 c =
+    let s = c .before .before in
     sym (first-none (misplacedIn (s .args .dims)) noModifier (s .args .t2) (s .args .n) (omega (arith, lengthy s)) (λ j h. c .before .loop .inv .1 j (omega arith)))
 
 pub some-misplaced-spec : {M : Type 1} → statement M

@@ -28,7 +28,8 @@ array-read-if1 : tie.Need-array-read-if1 Inv-loop μ-loop
 array-read-if1 c = omega arith
 
 returns : tie.Need-returns Inv-loop μ-loop
-returns c = let l = c .before .before .before .args .t1 in
+returns c =
+    let l = c .before .before .before .args .t1 in
     let k = c .before .before .loop .k in
     let n : length l ≡ 7 = search needs in
     sym (some-at tooLarge 0 l k (omega arith) (lt-ltb 4096 (getD l k 0) (c .if1 .taken)))
@@ -40,13 +41,15 @@ loop-less : tie.Need-loop-less Inv-loop μ-loop
 loop-less c = omega arith
 
 loop-again : tie.Need-loop-again Inv-loop μ-loop
-loop-again c = let l = c .before .before .before .args .t1 in
+loop-again c =
+    let l = c .before .before .before .args .t1 in
     let k = c .before .before .loop .k in
     let e : tooLarge (getD l k 0) ≡ false = le-ltb 4096 (getD l k 0) (omega arith) in
     (omega arith, below-more (λ j. tooLarge (getD l j 0) ≡ false) k (c .before .before .loop .inv .1) e)
 
 returns-2 : tie.Need-returns-2 Inv-loop μ-loop
-returns-2 c = let l = c .before .before .args .t1 in
+returns-2 c =
+    let l = c .before .before .args .t1 in
     let n : length l ≡ 7 = search needs in
     sym (some-none tooLarge 0 l (λ j h. c .before .loop .inv .1 j (omega arith)))
 

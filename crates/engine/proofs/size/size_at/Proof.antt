@@ -27,7 +27,8 @@ less-requires : tie.Need-less-requires
 less-requires c κs = search needs
 
 returns : tie.Need-returns
-returns c = let s = c .before .before .before .before in
+returns c =
+    let s = c .before .before .before .before in
     c .less .ensures
     ∙ omega (arith, size-nat (s .args .s) (s .args .d) (drop (suc (s .args .d)) (s .args .index)), c .before .before .gained .ensures .0, c .before .gained2 .ensures .0)
 
