@@ -17,7 +17,7 @@ plus-requires : tie.Need-plus-requires
 plus-requires c κs = search needs
 
 returns : tie.Need-returns
-returns c = rw (← c .plus .ensures)
+returns c = rw (← c .plus .ensures .exact)
 
 pub along-spec : {M : Type 1} → statement M
 along-spec = tie.close (tie.spec array-read-i add-index array-write-index plus-requires returns)

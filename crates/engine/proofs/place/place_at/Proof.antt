@@ -20,11 +20,11 @@ address-requires c κs = search needs
 
 returns : tie.Need-returns
 returns c =
-    let b = c .before .in-bytes .ensures .0 in
-    let s = c .before .before .stride-at .ensures .0 in
+    let b = c .before .in-bytes .ensures .exact in
+    let s = c .before .before .stride-at .ensures .exact in
     λ j. record {
       index = c .before .before .before .before .before .args .index;
-      address = record { 0 = c .address .ensures .0 j };
+      address = record { 0 = c .address .ensures .exact j };
       size = c .before .before .before .size-at .ensures j;
       step = record { 0 = (b ∙ ap (λ t. inBytes t 1 (c .before .before .before .before .before .args .width)) s) j };
     }
