@@ -33,4 +33,5 @@ pub mod LaneLaws
 pub mod ByteLaws
 pub mod Plans
 pub mod Operands
+pub mod OperandLaws
 pub mod Bench
