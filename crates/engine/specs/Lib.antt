@@ -23,6 +23,7 @@ pub mod WalkLaws
 pub mod IndexLaws
 pub mod Gains
 pub mod LaneLaws
+pub mod SignedLaws
 pub mod ByteLaws
 pub mod Plans
 pub mod Bench
