@@ -2,26 +2,22 @@
 --
 --   width-range                            a width is 1 to 8
 --   lane-small                             an operation on lanes gives a lane
+--   copy-exact                             copy gives the first lane
 --   add-exact, sub-exact, sub-modulo       add and subtract: exact, or off by 2^n
 --   and-bit, or-bit, xor-bit               and, or, xor: bit by bit
---   twos                                   a lane read as two's complement
---   twos-low, twos-high, raised-order      raised lanes stand in the order of two's complement
---   Least, smaller-least                   the smaller of two lanes
---   Greatest, larger-greatest              the larger
 --   sum-200-100, 0-less-1, smaller-80-01   the examples of 01
-use Prim.Native.Nat.{ℕ, zero, suc, _+_, _-_, _*_, _/_, _%_, _^_, _≤_, _<_, min, max}
-use mathlib.Core.Path.{_≡_, refl, sym, _∙_, ap, subst}
+--
+-- The smaller and the larger lane are in SignedLaws.
+use Prim.Native.Nat.{ℕ, zero, suc, _+_, _-_, _/_, _%_, _^_, _≤_, _<_, min, max}
+use mathlib.Core.Path.{_≡_, refl, _∙_, ap}
 use mathlib.Core.Logic.{_⊎_, inl, inr}
-use mathlib.Core.Bool.{Bool, true, false, cond, not}
+use mathlib.Core.Bool.{Bool, true, false, cond}
 use native.Mathlib.Omega.{arith}
-use native.Mathlib.Nat.{mod-lt, mod-eq-of-lt, mod-eq-sub-mod, add-mod-right, pow-succ'}
+use native.Mathlib.Nat.{mod-lt, mod-eq-of-lt, mod-eq-sub-mod, add-mod-right}
 use native.Mathlib.Decide.{decLt}
-use lib.Dec.{T, ltb, le→leb, ltb→lt}
+use lib.Dec.{ltb}
 use lib.Pow.{pow-pos, pow-mono}
 use lib.Bits.{differ, and-step, or-step, xor-step, and-shr, or-shr, xor-shr, and-lt, or-lt, xor-lt}
-use lib.IntN.{ℤ, pos, negsuc, _-ℤ_}
-use lib.Signed.{leZ, ltZ, _≤ℤ_, ≤ℤ-refl, ltZ-no}
-use borrow.Author.Tests.{lt-ltb, le-ltb}
 use Rattle.codec.specs.declared.operation.Action.{Action}
 use Rattle.codec.specs.declared.operation.Action.the-variants.{Copy, Add, Subtract, And, Or, Xor, Smaller, Larger}
 use Rattle.engine.specs.Lanes.{raised, lane}
@@ -45,6 +41,10 @@ lane-small Or n a b p q = or-lt n a b p q
 lane-small Xor n a b p q = xor-lt n a b p q
 lane-small Smaller n a b p q = one-of (ltb (raised n b) (raised n a)) a b (2 ^ n) p q
 lane-small Larger n a b p q = one-of (ltb (raised n a) (raised n b)) a b (2 ^ n) p q
+
+-- "0 copy"
+pub copy-exact : (n a b : ℕ) → lane Copy n a b ≡ a
+copy-exact n a b = refl
 
 -- "Add .. wrap[s] at the element width": the sum itself, or the sum less 2^n
 pub add-exact : (n a b : ℕ) → a < 2 ^ n → b < 2 ^ n → (lane Add n a b ≡ a + b) ⊎ (lane Add n a b + 2 ^ n ≡ a + b)
@@ -100,118 +100,6 @@ pub xor-bit : (n a b i : ℕ) → lane Xor n a b / 2 ^ i % 2 ≡ differ (a / 2 ^
 xor-bit n a b i =
     let d : differ (a / 2 ^ i % 2) (b / 2 ^ i % 2) < 2 = differ-small (a / 2 ^ i % 2) (b / 2 ^ i % 2) (omega arith) (omega arith) in
     ap (λ x. x % 2) (xor-shr a b i) ∙ omega (arith, xor-step (a / 2 ^ i) (b / 2 ^ i))
-
--- "read lanes as two's complement": from half the range on, a lane stands for 2^n less
-unfoldable pub twos : ℕ → ℕ → ℤ
-twos n a = cond (ltb a (2 ^ (n - 1))) (pos a) (pos a -ℤ pos (2 ^ n))
-
-below : (a m : ℕ) → a < m → pos a -ℤ pos m ≡ negsuc (m - suc a)
-below a zero h = absurd (omega arith)
-below a (suc m) h = rw (lt-ltb a (suc m) h)
-
-doubled : (n : ℕ) → 1 ≤ n → 2 ^ n ≡ 2 * 2 ^ (n - 1)
-doubled n h = let e : n ≡ suc (n - 1) = omega arith in ap (λ k. 2 ^ k) e ∙ pow-succ' 2 (n - 1)
-
-same-test : (a b c d : ℕ) → (a < b → c < d) → (b ≤ a → d ≤ c) → ltb a b ≡ ltb c d
-same-test a b c d f g = go (decLt a b)
-  where
-    go : Dec (a < b) → ltb a b ≡ ltb c d
-    go (yes h) = lt-ltb a b h ∙ sym (lt-ltb c d (f h))
-    go (no h) = let k : b ≤ a = omega arith in le-ltb a b k ∙ sym (le-ltb c d (g k))
-
-module _ (n : ℕ) (some : 1 ≤ n) where
-  -- the lower half stands for itself
-  pub twos-low : (a : ℕ) → a < 2 ^ (n - 1) → twos n a ≡ pos a
-  unfolding twos
-  twos-low a h = rw (lt-ltb a (2 ^ (n - 1)) h)
-
-  -- the upper half for the negative numbers, 2^n - 1 for -1
-  pub twos-high : (a : ℕ) → 2 ^ (n - 1) ≤ a → a < 2 ^ n → twos n a ≡ negsuc (2 ^ n - suc a)
-  unfolding twos
-  twos-high a h p = rw (le-ltb a (2 ^ (n - 1)) h) (below a (2 ^ n) p)
-
-  raised-low : (a : ℕ) → a < 2 ^ (n - 1) → raised n a ≡ a + 2 ^ (n - 1)
-  raised-low a h = mod-eq-of-lt (omega (arith, doubled n some))
-
-  raised-high : (a : ℕ) → 2 ^ (n - 1) ≤ a → a < 2 ^ n → raised n a ≡ a - 2 ^ (n - 1)
-  raised-high a h p =
-      let e : a + 2 ^ (n - 1) ≡ (a - 2 ^ (n - 1)) + 2 ^ n = omega (arith, doubled n some) in
-      ap (λ x. x % 2 ^ n) e ∙ add-mod-right (a - 2 ^ (n - 1)) (2 ^ n) ∙ mod-eq-of-lt (omega arith)
-
-  -- raised lanes stand in the order of two's complement
-  pub raised-order : (a b : ℕ) → a < 2 ^ n → b < 2 ^ n → ltb (raised n a) (raised n b) ≡ ltZ (twos n a) (twos n b)
-  raised-order a b p q = go (decLt a (2 ^ (n - 1))) (decLt b (2 ^ (n - 1)))
-    where
-      go : Dec (a < 2 ^ (n - 1)) → Dec (b < 2 ^ (n - 1)) → ltb (raised n a) (raised n b) ≡ ltZ (twos n a) (twos n b)
-      go (yes h) (yes k) =
-          rw (raised-low a h, raised-low b k, twos-low a h, twos-low b k)
-          (same-test (a + 2 ^ (n - 1)) (b + 2 ^ (n - 1)) a b (λ u. omega arith) (λ u. omega arith))
-      go (yes h) (no k) =
-          rw (raised-low a h, raised-high b (omega arith) q, twos-low a h, twos-high b (omega arith) q)
-          (le-ltb (a + 2 ^ (n - 1)) (b - 2 ^ (n - 1)) (omega (arith, doubled n some)))
-      go (no h) (yes k) =
-          rw (raised-high a (omega arith) p, raised-low b k, twos-high a (omega arith) p, twos-low b k)
-          (lt-ltb (a - 2 ^ (n - 1)) (b + 2 ^ (n - 1)) (omega (arith, doubled n some)))
-      go (no h) (no k) =
-          rw (raised-high a (omega arith) p, raised-high b (omega arith) q, twos-high a (omega arith) p, twos-high b (omega arith) q)
-          (same-test (a - 2 ^ (n - 1)) (b - 2 ^ (n - 1)) (2 ^ n - suc b) (2 ^ n - suc a) (λ u. omega arith) (λ u. omega arith))
-
--- the lane r is one of a and b, and no larger than either as two's complement
-pub record Least (n a b r : ℕ) : Type 0 where
-  pub one : (r ≡ a) ⊎ (r ≡ b)
-  pub first : twos n r ≤ℤ twos n a
-  pub second : twos n r ≤ℤ twos n b
-
--- the lane r is one of a and b, and no smaller than either as two's complement
-pub record Greatest (n a b r : ℕ) : Type 0 where
-  pub one : (r ≡ a) ⊎ (r ≡ b)
-  pub first : twos n a ≤ℤ twos n r
-  pub second : twos n b ≤ℤ twos n r
-
-lt-le : (x y : ℤ) → T (ltZ x y) → T (leZ x y)
-lt-le (pos x) (pos y) t = le→leb x y (let h : x < y = ltb→lt x y t in omega arith)
-lt-le (pos x) (negsuc y) t = t
-lt-le (negsuc x) (pos y) t = t
-lt-le (negsuc x) (negsuc y) t = le→leb y x (let h : y < x = ltb→lt y x t in omega arith)
-
-strictly : (x y : ℤ) → ltZ x y ≡ true → x ≤ℤ y
-strictly x y e = record { le = lt-le x y (subst T (sym e) tt) }
-
-otherwise : (x y : ℤ) → ltZ x y ≡ false → y ≤ℤ x
-otherwise x y e = ltZ-no (subst (λ t. T (not t)) (sym e) tt)
-
-module _ (n a b : ℕ) (some : 1 ≤ n) (p : a < 2 ^ n) (q : b < 2 ^ n) where
-  -- "6 signed smaller"
-  pub smaller-least : Least n a b (lane Smaller n a b)
-  smaller-least = go (ltb (raised n b) (raised n a)) refl
-    where
-      go : (t : Bool) → ltb (raised n b) (raised n a) ≡ t → Least n a b (cond t b a)
-      go true e = record {
-        one = inr refl;
-        first = strictly (twos n b) (twos n a) (sym (raised-order n some b a q p) ∙ e);
-        second = ≤ℤ-refl (twos n b);
-      }
-      go false e = record {
-        one = inl refl;
-        first = ≤ℤ-refl (twos n a);
-        second = otherwise (twos n b) (twos n a) (sym (raised-order n some b a q p) ∙ e);
-      }
-
-  -- "7 signed larger"
-  pub larger-greatest : Greatest n a b (lane Larger n a b)
-  larger-greatest = go (ltb (raised n a) (raised n b)) refl
-    where
-      go : (t : Bool) → ltb (raised n a) (raised n b) ≡ t → Greatest n a b (cond t b a)
-      go true e = record {
-        one = inr refl;
-        first = strictly (twos n a) (twos n b) (sym (raised-order n some a b p q) ∙ e);
-        second = ≤ℤ-refl (twos n b);
-      }
-      go false e = record {
-        one = inl refl;
-        first = ≤ℤ-refl (twos n a);
-        second = otherwise (twos n a) (twos n b) (sym (raised-order n some a b p q) ∙ e);
-      }
 
 -- "Bytes: 200 + 100 = 44; 0 - 1 = 255; smaller of 80h and 01h is 80h"
 sum-200-100 : lane Add 8 200 100 ≡ 44

@@ -30,6 +30,7 @@ pub mod AddressLaws
 pub mod Places
 pub mod CheckLaws
 pub mod LaneLaws
+pub mod SignedLaws
 pub mod ByteLaws
 pub mod Plans
 pub mod Operands
