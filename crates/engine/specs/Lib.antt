@@ -26,4 +26,5 @@ pub mod BoundLaws
 pub mod CountLaws
 pub mod AddressLaws
 pub mod Places
+pub mod GoodLaws
 pub mod Bench
