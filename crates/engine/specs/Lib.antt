@@ -35,4 +35,5 @@ pub mod ByteLaws
 pub mod Plans
 pub mod Operands
 pub mod OperandLaws
+pub mod GoodLaws
 pub mod Bench
