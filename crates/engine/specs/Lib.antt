@@ -26,4 +26,8 @@ pub mod BoundLaws
 pub mod CountLaws
 pub mod AddressLaws
 pub mod Places
+pub mod ComeLaws
+pub mod CalculationLaws
+pub mod EffectLaws
+pub mod EffectGood
 pub mod Bench
