@@ -30,4 +30,5 @@ pub mod ComeLaws
 pub mod CalculationLaws
 pub mod EffectLaws
 pub mod EffectGood
+pub mod StreamLaws
 pub mod Bench
