@@ -31,4 +31,6 @@ pub mod CalculationLaws
 pub mod EffectLaws
 pub mod EffectGood
 pub mod StreamLaws
+pub mod HistoryLaws
+pub mod RunLaws
 pub mod Bench
