@@ -33,4 +33,5 @@ pub mod EffectGood
 pub mod StreamLaws
 pub mod HistoryLaws
 pub mod RunLaws
+pub mod EndLaws
 pub mod Bench
