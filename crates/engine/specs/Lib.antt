@@ -34,4 +34,5 @@ pub mod StreamLaws
 pub mod HistoryLaws
 pub mod RunLaws
 pub mod EndLaws
+pub mod GoodLaws
 pub mod Bench

@@ -1,24 +1,30 @@
-// Open, dimension and modifier: their checks in document 01's order, and what they make of a register.
+// The configuring operations: their checks in document 01's order, and what they make of a register and of the machine.
 use crate::check::Why;
+use crate::plan::ended;
+use crate::register::Machine;
 use crate::register::Register;
 use crate::register::State;
 use crate::register::fresh;
 use crate::register::is_configuring;
 use crate::register::is_open;
-use crate::register::no_pattern;
+use crate::rules::low_or_high;
+use crate::rules::product_over;
 use crate::stream;
 use codec::amounts::Bytes;
 use codec::header::Coupling;
 use codec::header::Header;
 use codec::operation::Dimension;
 use codec::operation::Modifier;
+use codec::operation::Operation;
 use codec::refusal::Refusal;
 ghost use mathlib.Core.Path.{_≡_};
-ghost use Prim.Native.Nat.{_<_, _≤_, _+_};
-ghost use lib.ListN.{length};
+ghost use mathlib.Core.Bool.{true};
+ghost use Prim.Native.Nat.{ℕ, _<_, _≤_, _+_};
+ghost use Rattle.codec.specs.Operations.{operationInRange};
 ghost use Rattle.engine.specs.Checks.{firstOf};
-ghost use Rattle.engine.specs.Registers.{shapeOf};
-ghost use Rattle.engine.specs.Configure.{openChecks, dimensionChecks, modifierChecks, opened, patterned, dimensioned, modified, owned};
+ghost use Rattle.engine.specs.Registers.{isConfiguring, shapeOf};
+ghost use Rattle.engine.specs.Configure.{openChecks, dimensionChecks, modifierChecks, uncovered, endChecks, opened, patterned, dimensioned, modified, owned, ended, registerOf, checksFor, applied, unlessBecause, whyNot, configured};
+ghost use Rattle.engine.specs.Good.{Ranged, Good, AllGood};
 
 // Why open is refused: 5.
 pub(crate) fn why_open(r: Register) -> Why
@@ -65,6 +71,43 @@ pub(crate) fn why_modifier(r: Register, target: u64) -> Why
     let dims = r.pattern.shape.dims as u64;
     if dims <= target + 1 {
         return Why::Because(Refusal::Misplaced);
+    }
+    Why::Nothing
+}
+
+// Whether the coupled dimension is missing.
+fn uncovered(s: stream::Shape, coupling: Coupling) -> bool
+    ensures { λ q. ⌜ q ≡ uncovered s coupling ⌝ }
+{
+    let dims = s.dims as u64;
+    match coupling {
+        Coupling::Uncoupled => false,
+        Coupling::Coupled(c) => dims < c,
+    }
+}
+
+// Why end is refused: 5, then 7, then 8, then 9.
+pub(crate) fn why_end(r: Register) -> Why
+    requires { ⌜ Ranged (shapeOf r) ⌝ }
+    ensures { λ q. ⌜ q ≡ firstOf (endChecks r) ⌝ }
+{
+    let k = r.state;
+    if !is_configuring(k) {
+        return Why::Because(Refusal::WrongState);
+    }
+    let s = r.pattern.shape;
+    if s.dims == 0 {
+        return Why::Because(Refusal::Misplaced);
+    }
+    let coupling = s.coupling;
+    if uncovered(s, coupling) {
+        return Why::Because(Refusal::Misplaced);
+    }
+    if low_or_high(s) {
+        return Why::Because(Refusal::LowHigh);
+    }
+    if product_over(s) {
+        return Why::Because(Refusal::Product);
     }
     Why::Nothing
 }
@@ -226,4 +269,127 @@ pub(crate) fn with_modifier(r: Register, m: Modifier) -> Register
 {
     let p = r.pattern;
     patterned(r, modified(p, m))
+}
+
+// An operation on its register: why it is refused, if it is, and the register after it, which a refusal leaves as it was.
+pub(crate) struct Applied {
+    pub why: Why,
+    pub register: Register,
+}
+
+fn apply_open(r: Register, h: Header, base: Bytes) -> Applied
+    ensures { λ q. ⌜ (q .why ≡ firstOf (openChecks r)) × (q .register ≡ unlessBecause (q .why) (opened h base) r) ⌝ }
+{
+    let why = why_open(r);
+    match why {
+        Why::Nothing => Applied {
+            why: Why::Nothing,
+            register: opened(h, base),
+        },
+        Why::Because(x) => Applied {
+            why: Why::Because(x),
+            register: r,
+        },
+    }
+}
+
+fn apply_dimension(r: Register, d: Dimension) -> Applied
+    ensures { λ q. ⌜ (q .why ≡ firstOf (dimensionChecks r)) × (q .register ≡ unlessBecause (q .why) (patterned (dimensioned d (r .pattern)) r) r) ⌝ }
+{
+    let why = why_dimension(r);
+    match why {
+        Why::Nothing => Applied {
+            why: Why::Nothing,
+            register: with_dimension(r, d),
+        },
+        Why::Because(x) => Applied {
+            why: Why::Because(x),
+            register: r,
+        },
+    }
+}
+
+fn apply_modifier(r: Register, m: Modifier) -> Applied
+    requires { ⌜ m .target < 7 ⌝ }
+    ensures { λ q. ⌜ (q .why ≡ firstOf (modifierChecks (m .target) r)) × (q .register ≡ unlessBecause (q .why) (patterned (modified m (r .pattern)) r) r) ⌝ }
+{
+    let why = why_modifier(r, m.target);
+    match why {
+        Why::Nothing => Applied {
+            why: Why::Nothing,
+            register: with_modifier(r, m),
+        },
+        Why::Because(x) => Applied {
+            why: Why::Because(x),
+            register: r,
+        },
+    }
+}
+
+fn apply_end(r: Register) -> Applied
+    requires { ⌜ Ranged (shapeOf r) × (isConfiguring (r .state) ≡ true → r .moved ≡ 0) ⌝ }
+    ensures { λ q. ⌜ (q .why ≡ firstOf (endChecks r)) × (q .register ≡ unlessBecause (q .why) (ended r) r) ⌝ }
+{
+    let why = why_end(r);
+    match why {
+        Why::Nothing => Applied {
+            why: Why::Nothing,
+            register: ended(r),
+        },
+        Why::Because(x) => Applied {
+            why: Why::Because(x),
+            register: r,
+        },
+    }
+}
+
+// Any operation on its register; a run changes none here.
+pub(crate) fn apply(o: Operation, r: Register) -> Applied
+    requires { ⌜ ((vl : ℕ) × Good vl r) × (operationInRange o ≡ true) ⌝ }
+    ensures { λ q. ⌜ (q .why ≡ firstOf (checksFor o r)) × (q .register ≡ unlessBecause (q .why) (applied o r) r) ⌝ }
+{
+    match o {
+        Operation::Open(h, base) => apply_open(r, h, base),
+        Operation::Dimension(d) => apply_dimension(r, d),
+        Operation::Modifier(m) => apply_modifier(r, m),
+        Operation::End(i) => apply_end(r),
+        Operation::Run(i, n) => Applied {
+            why: Why::Nothing,
+            register: r,
+        },
+    }
+}
+
+// The register that an operation names.
+pub(crate) fn register_of(o: Operation) -> usize
+    ensures { λ q. ⌜ q ≡ registerOf o ⌝ }
+{
+    match o {
+        Operation::Open(h, base) => h.register,
+        Operation::Dimension(d) => d.register,
+        Operation::Modifier(m) => m.register,
+        Operation::End(i) => i,
+        Operation::Run(i, n) => i,
+    }
+}
+
+// An operation on the machine: why it is refused, if it is, and the machine after it, which a refusal leaves as it was.
+pub(crate) struct Configured {
+    pub why: Why,
+    pub machine: Machine,
+}
+
+pub(crate) fn configure(m: Machine, o: Operation) -> Configured
+    requires { ⌜ ((vl : ℕ) × AllGood vl m) × (operationInRange o ≡ true) ⌝ }
+    ensures { λ q. ⌜ (q .why ≡ whyNot o m) × (q .machine ≡ configured o m) ⌝ }
+{
+    let i = register_of(o);
+    let mut registers = m.registers;
+    let r = registers[i];
+    let a = apply(o, r);
+    let why = a.why;
+    let register = a.register;
+    registers[i] = register;
+    let machine = Machine { registers };
+    Configured { why, machine }
 }
