@@ -35,5 +35,13 @@ pub mod ByteLaws
 pub mod Plans
 pub mod Operands
 pub mod OperandLaws
+pub mod ComeLaws
+pub mod CalculationLaws
+pub mod EffectLaws
+pub mod EffectGood
+pub mod StreamLaws
+pub mod HistoryLaws
+pub mod RunLaws
+pub mod EndLaws
 pub mod GoodLaws
 pub mod Bench

@@ -1,0 +1,200 @@
+-- The checks of a calculation that is not refused, and its step.
+--
+--   never, never-true, or-false, and-false, both, and-left, and-right, and-both   flags
+--   Named, named                               the registers that a calculation names are among the 32
+--   Passed, passed, unrefused                  the checks that did not apply, by name
+--   PassedIn, checked, not-refused             those of a calculation in a world: not refused exactly if it passes them
+--   step-done, step-refused                    a calculation counted; a refused one changes neither world nor report
+use Prim.Native.Nat.{ℕ, _<_}
+use mathlib.Core.Path.{_≡_, refl, sym, ap}
+use mathlib.Core.List.{List, [], _∷_}
+use mathlib.Core.Bool.{Bool, true, false, cond, not, _&&_, _||_}
+use native.Mathlib.Omega.{arith}
+use lib.ListN.{length, take}
+use lib.Dec.{eqb, ltb}
+use borrow.Author.Tests.{leb-true}
+use Rattle.codec.specs.Operations.{isRegister, isSecond, actionCode, calculationInRange}
+use Rattle.codec.specs.declared.operation.Calculation.{Calculation}
+use Rattle.codec.specs.declared.refusal.Refusal.{Refusal}
+use Rattle.engine.specs.Checks.{Check, _if_, firstOf}
+use Rattle.engine.specs.Registers.{isConfiguring, isFinished, openLoad, openStore, nextChunk, reg}
+use Rattle.engine.specs.Calculate.{World, given, outside, checksOn, refusalOf, effect}
+use Rattle.engine.specs.Run.{Progress, stepped, step}
+use Rattle.engine.specs.declared.check.Why.the-variants.{Nothing, Because}
+use Rattle.engine.specs.declared.register.Register.{Register}
+use Rattle.engine.specs.declared.run.Placed.{Placed}
+use Rattle.engine.specs.declared.run.Verdict.the-variants.{Refused}
+
+-- ---- flags
+
+-- a flag that is clear is not set
+pub never : {X : Type 0} → false ≡ true → X
+never e = absurd (let z : _≡_ {A = ℕ} 0 1 = ap (λ t. cond t 1 0) e in omega arith)
+
+-- nor the other way round
+pub never-true : {X : Type 0} → true ≡ false → X
+never-true e = never (sym e)
+
+-- neither of two
+pub or-false : (a b : Bool) → (a || b) ≡ false → (a ≡ false) × (b ≡ false)
+or-false true b e = never-true e
+or-false false b e = (refl, e)
+
+-- not both, but the first: not the second
+pub and-false : (a b : Bool) → (a && b) ≡ false → a ≡ true → b ≡ false
+and-false true b e p = e
+and-false false b e p = never p
+
+-- both of two
+pub both : (a b : Bool) → (a && b) ≡ true → (a ≡ true) × (b ≡ true)
+both true b e = (refl, e)
+both false b e = never e
+
+-- not the first: not both
+pub and-left : (a b : Bool) → a ≡ false → (a && b) ≡ false
+and-left a b e = rw e
+
+-- not the second: not both
+pub and-right : (a b : Bool) → b ≡ false → (a && b) ≡ false
+and-right true b e = e
+and-right false b e = refl
+
+-- each: both
+pub and-both : (a b : Bool) → a ≡ true → b ≡ true → (a && b) ≡ true
+and-both a b e f = rw (e, f)
+
+-- ---- the checks
+
+-- the registers that a calculation names are among the 32
+pub record Named (c : Calculation) : Type 0 where
+  pub first : c .first < 32
+  pub second : c .second < 32
+  pub destination : c .destination < 32
+
+-- a calculation in range names registers
+pub named : (c : Calculation) → calculationInRange c ≡ true → Named c
+named c e =
+    let a = both (isRegister (c .destination) && isRegister (c .first)) (isSecond (actionCode (c .action)) (c .first) (c .second)) e in
+    let b = both (isRegister (c .destination)) (isRegister (c .first)) (a .0) in
+    let s = both (isRegister (c .second)) (not (eqb (actionCode (c .action)) 0) || eqb (c .second) (c .first)) (a .1) in
+    record {
+      first = omega (arith, leb-true (c .first) 31 (b .1));
+      second = omega (arith, leb-true (c .second) 31 (s .0));
+      destination = omega (arith, leb-true (c .destination) 31 (b .0));
+    }
+
+-- a list of checks gives none: its first does not apply, and the others give none
+next : (x : Refusal) (b : Bool) (cs : List Check) → firstOf (x if b ∷ cs) ≡ Nothing → (b ≡ false) × (firstOf cs ≡ Nothing)
+unfolding firstOf
+next x true cs e = absurd (let z : _≡_ {A = ℕ} 0 1 = cc in omega arith)
+next x false cs e = (refl, e)
+
+-- and the reverse
+more : (x : Refusal) (b : Bool) (cs : List Check) → b ≡ false → firstOf cs ≡ Nothing → firstOf (x if b ∷ cs) ≡ Nothing
+unfolding firstOf
+more x b cs p e = rw p e
+
+-- the checks of a calculation that did not apply: on first source a, second source b, destination d, with n lanes of a and m of b
+pub record Passed (vl len n m : ℕ) (a b d : Register) : Type 0 where
+  pub first-state : isConfiguring (a .state) ≡ false
+  pub first-ended : isFinished (a .state) ≡ false
+  pub first-kind : openStore a ≡ false
+  pub second-state : isConfiguring (b .state) ≡ false
+  pub second-ended : isFinished (b .state) ≡ false
+  pub second-kind : openStore b ≡ false
+  pub destination-state : isConfiguring (d .state) ≡ false
+  pub destination-ended : isFinished (d .state) ≡ false
+  pub destination-kind : openLoad d ≡ false
+  pub widths : (not (eqb (a .width) (b .width)) || openStore d && not (eqb (a .width) (d .width))) ≡ false
+  pub counts : (not (eqb n m) || openStore d && ltb (length (nextChunk vl d)) n) ≡ false
+  pub first-inside : outside len a (nextChunk vl a) ≡ false
+  pub second-inside : outside len b (nextChunk vl b) ≡ false
+  pub destination-inside : outside len d (take n (nextChunk vl d)) ≡ false
+
+-- where no check gives a refusal, each was passed
+pub passed : (vl len n m : ℕ) (a b d : Register) → firstOf (checksOn vl len n m a b d) ≡ Nothing → Passed vl len n m a b d
+passed vl len n m a b d e =
+    let k1 = next _ _ _ e in
+    let k2 = next _ _ _ (k1 .1) in
+    let k3 = next _ _ _ (k2 .1) in
+    let k4 = next _ _ _ (k3 .1) in
+    let k5 = next _ _ _ (k4 .1) in
+    let k6 = next _ _ _ (k5 .1) in
+    let k7 = next _ _ _ (k6 .1) in
+    let k8 = next _ _ _ (k7 .1) in
+    let k9 = next _ _ _ (k8 .1) in
+    let k10 = next _ _ _ (k9 .1) in
+    let k11 = next _ _ _ (k10 .1) in
+    let k12 = next _ _ _ (k11 .1) in
+    let k13 = next _ _ _ (k12 .1) in
+    let k14 = next _ _ _ (k13 .1) in
+    record {
+      first-state = k1 .0;
+      first-ended = k2 .0;
+      first-kind = k3 .0;
+      second-state = k4 .0;
+      second-ended = k5 .0;
+      second-kind = k6 .0;
+      destination-state = k7 .0;
+      destination-ended = k8 .0;
+      destination-kind = k9 .0;
+      widths = k10 .0;
+      counts = k11 .0;
+      first-inside = k12 .0;
+      second-inside = k13 .0;
+      destination-inside = k14 .0;
+    }
+
+nothing : firstOf [] ≡ Nothing
+unfolding firstOf
+nothing = refl
+
+-- and the reverse
+pub unrefused : (vl len n m : ℕ) (a b d : Register) → Passed vl len n m a b d → firstOf (checksOn vl len n m a b d) ≡ Nothing
+unrefused vl len n m a b d p =
+    more _ _ _ (p .first-state)
+    (more _ _ _ (p .first-ended)
+    (more _ _ _ (p .first-kind)
+    (more _ _ _ (p .second-state)
+    (more _ _ _ (p .second-ended)
+    (more _ _ _ (p .second-kind)
+    (more _ _ _ (p .destination-state)
+    (more _ _ _ (p .destination-ended)
+    (more _ _ _ (p .destination-kind)
+    (more _ _ _ (p .widths)
+    (more _ _ _ (p .counts)
+    (more _ _ _ (p .first-inside)
+    (more _ _ _ (p .second-inside)
+    (more _ _ [] (p .destination-inside) nothing)))))))))))))
+
+-- the checks of a calculation in a world
+abbrev pub PassedIn : ℕ → Calculation → World → Type 0
+PassedIn vl c w =
+    Passed vl (length (w .memory))
+    (length (given vl (w .memory) (reg (w .machine) (c .first))))
+    (length (given vl (w .memory) (reg (w .machine) (c .second))))
+    (reg (w .machine) (c .first))
+    (reg (w .machine) (c .second))
+    (reg (w .machine) (c .destination))
+
+-- a calculation that is not refused passed its checks
+pub checked : (vl : ℕ) (c : Calculation) (w : World) → refusalOf vl c w ≡ Nothing → PassedIn vl c w
+unfolding refusalOf
+checked vl c w e = passed _ _ _ _ _ _ _ e
+
+-- one that passes them is not refused
+pub not-refused : (vl : ℕ) (c : Calculation) (w : World) → PassedIn vl c w → refusalOf vl c w ≡ Nothing
+unfolding refusalOf
+not-refused vl c w p = unrefused _ _ _ _ _ _ _ p
+
+-- ---- steps
+
+-- a calculation that is not refused is done and counted
+pub step-done : (vl : ℕ) (c : Placed) (g : Progress) → refusalOf vl (c .calculation) (g .world) ≡ Nothing
+    → step vl c g ≡ stepped Nothing (c .place) (effect vl (c .calculation) (g .world)) g
+step-done vl c g e = ap (λ y. stepped y (c .place) (effect vl (c .calculation) (g .world)) g) e
+
+-- a refused one leaves world and report as they were
+pub step-refused : (vl : ℕ) (c : Placed) (g : Progress) (x : Refusal) → refusalOf vl (c .calculation) (g .world) ≡ Because x
+    → step vl c g ≡ record { world = g .world; report = g .report; verdict = Refused x (c .place) }
+step-refused vl c g x e = ap (λ y. stepped y (c .place) (effect vl (c .calculation) (g .world)) g) e
