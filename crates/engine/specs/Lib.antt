@@ -26,6 +26,7 @@ pub mod BoundLaws
 pub mod CountLaws
 pub mod AddressLaws
 pub mod Places
+pub mod GoodLaws
 pub mod ComeLaws
 pub mod CalculationLaws
 pub mod EffectLaws
@@ -33,6 +34,6 @@ pub mod EffectGood
 pub mod StreamLaws
 pub mod HistoryLaws
 pub mod RunLaws
+pub mod StepLaws
 pub mod EndLaws
-pub mod GoodLaws
 pub mod Bench
