@@ -1,13 +1,12 @@
--- The checks of a calculation that is not refused, and its step.
+-- The checks of a calculation that is not refused.
 --
 --   never, never-true, or-false, and-false, both, and-left, and-right, and-both   flags
 --   Named, named                               the registers that a calculation names are among the 32
 --   Passed, passed, unrefused                  the checks that did not apply, by name
 --   PassedIn, checked, not-refused             those of a calculation in a world: not refused exactly if it passes them
---   step-done, step-refused                    a calculation counted; a refused one changes neither world nor report
 use Prim.Native.Nat.{ℕ, _<_}
 use mathlib.Core.Path.{_≡_, refl, sym, ap}
-use mathlib.Core.List.{List, [], _∷_}
+use mathlib.Core.List.{[]}
 use mathlib.Core.Bool.{Bool, true, false, cond, not, _&&_, _||_}
 use native.Mathlib.Omega.{arith}
 use lib.ListN.{length, take}
@@ -15,15 +14,12 @@ use lib.Dec.{eqb, ltb}
 use borrow.Author.Tests.{leb-true}
 use Rattle.codec.specs.Operations.{isRegister, isSecond, actionCode, calculationInRange}
 use Rattle.codec.specs.declared.operation.Calculation.{Calculation}
-use Rattle.codec.specs.declared.refusal.Refusal.{Refusal}
-use Rattle.engine.specs.Checks.{Check, _if_, firstOf}
+use Rattle.engine.specs.Checks.{firstOf}
 use Rattle.engine.specs.Registers.{isConfiguring, isFinished, openLoad, openStore, nextChunk, reg}
-use Rattle.engine.specs.Calculate.{World, given, outside, checksOn, refusalOf, effect}
-use Rattle.engine.specs.Run.{Progress, stepped, step}
-use Rattle.engine.specs.declared.check.Why.the-variants.{Nothing, Because}
+use Rattle.engine.specs.Calculate.{World, given, outside, checksOn, refusalOf}
+use Rattle.engine.specs.GoodLaws.{next, more}
+use Rattle.engine.specs.declared.check.Why.the-variants.{Nothing}
 use Rattle.engine.specs.declared.register.Register.{Register}
-use Rattle.engine.specs.declared.run.Placed.{Placed}
-use Rattle.engine.specs.declared.run.Verdict.the-variants.{Refused}
 
 -- ---- flags
 
@@ -82,17 +78,6 @@ named c e =
       second = omega (arith, leb-true (c .second) 31 (s .0));
       destination = omega (arith, leb-true (c .destination) 31 (b .0));
     }
-
--- a list of checks gives none: its first does not apply, and the others give none
-next : (x : Refusal) (b : Bool) (cs : List Check) → firstOf (x if b ∷ cs) ≡ Nothing → (b ≡ false) × (firstOf cs ≡ Nothing)
-unfolding firstOf
-next x true cs e = absurd (let z : _≡_ {A = ℕ} 0 1 = cc in omega arith)
-next x false cs e = (refl, e)
-
--- and the reverse
-more : (x : Refusal) (b : Bool) (cs : List Check) → b ≡ false → firstOf cs ≡ Nothing → firstOf (x if b ∷ cs) ≡ Nothing
-unfolding firstOf
-more x b cs p e = rw p e
 
 -- the checks of a calculation that did not apply: on first source a, second source b, destination d, with n lanes of a and m of b
 pub record Passed (vl len n m : ℕ) (a b d : Register) : Type 0 where
@@ -186,15 +171,3 @@ checked vl c w e = passed _ _ _ _ _ _ _ e
 pub not-refused : (vl : ℕ) (c : Calculation) (w : World) → PassedIn vl c w → refusalOf vl c w ≡ Nothing
 unfolding refusalOf
 not-refused vl c w p = unrefused _ _ _ _ _ _ _ p
-
--- ---- steps
-
--- a calculation that is not refused is done and counted
-pub step-done : (vl : ℕ) (c : Placed) (g : Progress) → refusalOf vl (c .calculation) (g .world) ≡ Nothing
-    → step vl c g ≡ stepped Nothing (c .place) (effect vl (c .calculation) (g .world)) g
-step-done vl c g e = ap (λ y. stepped y (c .place) (effect vl (c .calculation) (g .world)) g) e
-
--- a refused one leaves world and report as they were
-pub step-refused : (vl : ℕ) (c : Placed) (g : Progress) (x : Refusal) → refusalOf vl (c .calculation) (g .world) ≡ Because x
-    → step vl c g ≡ record { world = g .world; report = g .report; verdict = Refused x (c .place) }
-step-refused vl c g x e = ap (λ y. stepped y (c .place) (effect vl (c .calculation) (g .world)) g) e

@@ -7,7 +7,7 @@
 --   next-front, next-lanes, next-within, next-some   the next chunk: the front of what is to come, at most the lanes, within the stream, not empty
 --   IsStream, stream-moved        a stream that was ended
 --   open-some, none-shut, shut-finished, finished-exactly, finished-all   open where some are to come, finished where none are
-use Prim.Native.Nat.{ℕ, _+_, _-_, _/_, _^_, _≤_, _<_}
+use Prim.Native.Nat.{ℕ, _+_, _-_, _/_, _≤_, _<_}
 use mathlib.Core.Path.{_≡_, refl, sym, _∙_, ap, subst}
 use mathlib.Core.Logic.{_↔_}
 use mathlib.Core.List.{List, [], _++_}
@@ -16,7 +16,7 @@ use native.Mathlib.Omega.{arith}
 use native.Mathlib.Nat.{le-div-iff-mul-le}
 use lib.ListN.{length, take, drop, length-take, length-drop, take-append-drop, drop-of-length-le}
 use lib.Seq.{drop-drop}
-use lib.Pow.{pow-pos, pow-mono}
+use lib.Pow.{pow-pos}
 use lib.Dec.{leb}
 use borrow.Author.Tests.{leb-true}
 use Rattle.engine.specs.Loops.{sizeAt, elements}
@@ -25,15 +25,13 @@ use Rattle.engine.specs.ChunkLaws.{Covered, covered, groups-join, chunk-
 use Rattle.engine.specs.Memory.{holding}
 use Rattle.engine.specs.Registers.{isOpen, isFinished, shapeOf, toCome, nextChunk, movedBy}
 use Rattle.engine.specs.Good.{IsWidth, Good}
+use Rattle.engine.specs.GoodLaws.{width-most}
 use Rattle.engine.specs.declared.register.State.{State}
 use Rattle.engine.specs.declared.register.State.the-variants.{Plain, Configuring, Open, Finished}
 use Rattle.engine.specs.declared.register.Register.{Register}
 
 never : {X : Type 0} → false ≡ true → X
 never e = absurd (let z : _≡_ {A = ℕ} 0 1 = ap (λ t. cond t 1 0) e in omega arith)
-
-width-most : (w : ℕ) → IsWidth w → w ≤ 8
-width-most w h = let q : 2 ^ h .0 ≤ 2 ^ 3 = pow-mono (h .1) in omega (arith, h .2)
 
 -- a vector of at least 8 bytes has a lane of any width
 pub lanes-some : (vl width : ℕ) → 8 ≤ vl → IsWidth width → 0 < vl / width

@@ -4,55 +4,23 @@
 --   effect-good                                all registers after a calculation
 use Prim.Native.Nat.{ℕ, _+_, _*_, _≤_, _<_}
 use mathlib.Core.Path.{_≡_, refl, sym, _∙_, subst}
-use mathlib.Core.List.{List, [], _++_}
+use mathlib.Core.List.{List, _++_}
 use mathlib.Core.Bool.{Bool, true, false, cond, _||_}
 use native.Mathlib.Omega.{arith}
-use lib.ListN.{length, getD, replicate, length-take, length-append}
-use lib.Dec.{eqb, leb}
-use borrow.Author.Tests.{eqb-true, leb-true, leb-false}
+use lib.ListN.{length, replicate, length-take, length-append}
+use lib.Dec.{eqb}
+use borrow.Author.Tests.{eqb-true}
 use Rattle.codec.specs.declared.operation.Calculation.{Calculation}
-use Rattle.engine.specs.Loops.{elements}
 use Rattle.engine.specs.Memory.{joined, packed, holding}
-use Rattle.engine.specs.Registers.{isConfiguring, isOpen, isFinished, nextChunk, shapeOf, indexOf, movedTo, movedBy, reg}
+use Rattle.engine.specs.Registers.{isOpen, nextChunk, movedBy, reg}
 use Rattle.engine.specs.Calculate.{World, given, results, refusalOf, readFrom, writtenTo, effect}
-use Rattle.engine.specs.Good.{Accepted, IsWidth, Standing, Good, AllGood}
+use Rattle.engine.specs.Good.{IsWidth, Standing, Good, AllGood}
+use Rattle.engine.specs.GoodLaws.{moved-good}
 use Rattle.engine.specs.ComeLaws.{next-within}
-use Rattle.engine.specs.CalculationLaws.{never, Named}
+use Rattle.engine.specs.CalculationLaws.{Named}
 use Rattle.engine.specs.EffectLaws.{effect-reg, effect-length, read-open, read-shut, written-open, written-shut, given-fits, results-length, room}
 use Rattle.engine.specs.declared.check.Why.the-variants.{Nothing}
-use Rattle.engine.specs.declared.register.State.the-variants.{Open, Finished}
 use Rattle.engine.specs.declared.register.Register.{Register}
-
-seven : (v : List ℕ) → length (indexOf v) ≡ 7
-seven v = omega (arith, length-take 7 (v ++ replicate 7 0), length-append v (replicate 7 0))
-
-after-configuring : (b : Bool) → isConfiguring (cond b Finished Open) ≡ false
-after-configuring true = refl
-after-configuring false = refl
-
-after-open : (b : Bool) → isOpen (cond b Finished Open) ≡ true → b ≡ false
-after-open true e = sym e
-after-open false e = refl
-
-after-finished : (b : Bool) → isFinished (cond b Finished Open) ≡ true → b ≡ true
-after-finished true e = refl
-after-finished false e = e
-
--- after n elements in all
-moved-good : (vl : ℕ) (r : Register) → Good vl r → Accepted (shapeOf r) → (n : ℕ) → n ≤ length (elements (shapeOf r)) → Good vl (movedTo n r)
-moved-good vl r g a n h =
-    let all : ℕ = length (elements (shapeOf r)) in
-    let stands : Standing (movedTo n r) = record { accepted = a; index = refl; height = refl } in
-    record {
-      width = g .width;
-      lanes = g .lanes;
-      valid = g .valid;
-      pattern = g .pattern;
-      indices = seven (getD (elements (shapeOf r)) n []);
-      unmoved = λ e. never (sym (after-configuring (leb all n)) ∙ e);
-      opened = λ e. (stands, leb-false all n (after-open (leb all n) e));
-      finished = λ e. let q : all ≤ n = leb-true all n (after-finished (leb all n) e) in (stands, omega arith);
-    }
 
 packed-length : (width : ℕ) (xs : List ℕ) → length (packed width xs) ≡ 64
 packed-length width xs = omega (arith, length-take 64 (joined width xs ++ replicate 64 0), length-append (joined width xs) (replicate 64 0))

@@ -35,6 +35,7 @@ pub mod ByteLaws
 pub mod Plans
 pub mod Operands
 pub mod OperandLaws
+pub mod GoodLaws
 pub mod ComeLaws
 pub mod CalculationLaws
 pub mod EffectLaws
@@ -42,6 +43,6 @@ pub mod EffectGood
 pub mod StreamLaws
 pub mod HistoryLaws
 pub mod RunLaws
+pub mod StepLaws
 pub mod EndLaws
-pub mod GoodLaws
 pub mod Bench
