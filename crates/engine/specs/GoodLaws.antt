@@ -20,7 +20,7 @@ use lib.Seq.{getD-set-same, getD-set-other, set-getD}
 use lib.Dec.{leb, ltb, eqb}
 use lib.IntN.{natAbs}
 use lib.Signed.{nonNeg}
-use lib.Pow.{pow-mono}
+use lib.Pow.{pow-mono, pow-pos}
 use borrow.Author.Tests.{leb-true, leb-false, ltb-true, ltb-false, eqb-false, not-false}
 use Rattle.codec.specs.Headers.{bytesOf, headerInRange, couplingInRange}
 use Rattle.codec.specs.Operations.{isRegister, isBase, isReach, isSize, isDisplacement, isCount, upTo, baseInRange, dimensionInRange, modifierInRange, operationInRange}
@@ -488,3 +488,7 @@ ready vl r g e = record {
   index = g .opened e .0 .index;
   height = g .opened e .0 .height;
 }
+
+-- a width is at least one byte
+pub width-some : (w : ℕ) → IsWidth w → 1 ≤ w
+width-some w h = rw (h .2) (pow-pos (h .0))

@@ -2,7 +2,8 @@
 --
 --   Operates               a register as an operand
 --   lanesOf                the lanes that an operand gives
---   outcome                a calculation on three registers and a memory
+--   resultsOn, whyOn, Calculated   a calculation on three registers and a memory
+--   Fitting, lanesOut, CarriedOut  operands that no check refused; the calculation carried out on them
 use Prim.Native.Nat.{ℕ, _*_, _/_, _≤_}
 use mathlib.Core.Path.{_≡_}
 use mathlib.Core.List.{List}
@@ -11,14 +12,16 @@ use lib.ListN.{length, take}
 use Rattle.codec.specs.declared.operation.Action.{Action}
 use Rattle.engine.specs.Chunks.{chunk}
 use Rattle.engine.specs.Lanes.{lane, lanewise}
-use Rattle.engine.specs.Memory.{contents}
+use Rattle.engine.specs.Memory.{contents, holding}
 use Rattle.engine.specs.Checks.{firstOf}
 use Rattle.engine.specs.Configure.{unlessBecause}
 use Rattle.engine.specs.Calculate.{given, checksOn, readFrom, writtenTo, memoryAfter}
 use Rattle.engine.specs.Registers.{isOpen, shapeOf, movedBy}
 use Rattle.engine.specs.Places.{addressesOf}
-use Rattle.engine.specs.Plans.{fetchedAt}
+use Rattle.engine.specs.Plans.{allWithin, fetchedAt, storedAt}
+use Rattle.engine.specs.Good.{IsWidth}
 use Rattle.engine.specs.declared.check.Why.{Why}
+use Rattle.engine.specs.declared.check.Why.the-variants.{Nothing}
 use Rattle.engine.specs.declared.register.Register.{Register}
 use Rattle.engine.specs.declared.operand.Operand.{Operand}
 
@@ -48,3 +51,29 @@ pub record Calculated (vl : ℕ) (action : Action) (memory : List ℕ) (a b d : 
   pub other : second ≡ unlessBecause (whyOn vl memory a b d) (readFrom vl memory b) b
   pub written : destination ≡ unlessBecause (whyOn vl memory a b d) (writtenTo (a .width) (resultsOn vl action memory a b) d) d
   pub stored : after ≡ unlessBecause (whyOn vl memory a b d) (memoryAfter vl (resultsOn vl action memory a b) memory d) memory
+
+-- operands that no check refused: widths that are the same where lanes meet, as many lanes, every element inside
+pub record Fitting (len : ℕ) (a b d : Register) (x y z : Operand) : Type 0 where
+  pub first : IsWidth (a .width)
+  pub second : b .width ≡ a .width
+  pub destination : z .live ≡ true → d .width ≡ a .width
+  pub third : IsWidth (d .width)
+  pub counts : (cond (x .live) (x .count) (a .valid) * a .width ≤ 64) × (cond (y .live) (y .count) (b .valid) ≡ cond (x .live) (x .count) (a .valid))
+  pub plain : (a .valid * a .width ≤ 64) × (b .valid * b .width ≤ 64)
+  pub few : (x .count ≤ 64) × (y .count ≤ 64)
+  pub room : z .live ≡ true → z .count ≡ cond (x .live) (x .count) (a .valid)
+  pub insideFirst : x .live ≡ true → allWithin len (a .width) (take (x .count) (x .addresses)) ≡ true
+  pub insideSecond : y .live ≡ true → allWithin len (b .width) (take (y .count) (y .addresses)) ≡ true
+  pub insideThird : z .live ≡ true → allWithin len (d .width) (take (z .count) (z .addresses)) ≡ true
+
+-- the lanes of the result, over operands
+abbrev pub lanesOut : Action → List ℕ → Register → Register → Operand → Operand → List ℕ
+lanesOut action memory a b x y = lanewise (lane action (8 * a .width)) (lanesOf a x memory) (lanesOf b y memory)
+
+-- a calculation carried out, over operands
+pub record CarriedOut (action : Action) (memory : List ℕ) (a b d : Register) (x y z : Operand) (why : Why) (first second destination : Register) (after : List ℕ) : Type 0 where
+  pub done : why ≡ Nothing
+  pub read : first ≡ cond (x .live) (holding (a .width) (lanesOf a x memory) (x .after)) a
+  pub other : second ≡ cond (y .live) (holding (b .width) (lanesOf b y memory) (y .after)) b
+  pub written : destination ≡ cond (z .live) (z .after) (holding (a .width) (lanesOut action memory a b x y) d)
+  pub stored : after ≡ cond (z .live) (storedAt memory (d .width) (take (z .count) (z .addresses)) (lanesOut action memory a b x y)) memory

@@ -1,5 +1,6 @@
 // The stream engine: registers, the loops of their streams, chunks and flags, calculations, and the run of a sheet.
 mod address;
+mod calculate;
 pub mod check;
 pub mod configure;
 mod gain;
