@@ -12,3 +12,4 @@ mod ByteSteps
 mod PlaceSteps
 mod LaneSteps
 mod LaneCounts
+mod Ordered

@@ -139,7 +139,7 @@ given-fits vl memory r g = go (isOpen (r .state))
         omega (arith, mul-le-mul-right (r .width) l, div-mul-le-self vl (r .width))
     go false = subst (λ n. n * r .width ≤ vl) (sym (length-lanes (r .lanes) (r .width) 0 (r .valid))) (g .valid)
 
-lanewise-length : (f : ℕ → ℕ → ℕ) (xs ys : List ℕ) → length xs ≡ length ys → length (lanewise f xs ys) ≡ length xs
+pub lanewise-length : (f : ℕ → ℕ → ℕ) (xs ys : List ℕ) → length xs ≡ length ys → length (lanewise f xs ys) ≡ length xs
 unfolding lanewise
 lanewise-length f [] ys e = refl
 lanewise-length f (x ∷ xs) [] e = absurd (omega arith)

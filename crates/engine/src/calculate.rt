@@ -1,11 +1,19 @@
 // One calculation on three registers and a lent memory: every check first, then everything moves.
-use codec::operation::Action;
-use codec::refusal::Refusal;
 use crate::check::Why;
 use crate::memory::combine;
-use crate::operand::{Operand, as_operand, lanes_of, outside, read_on, second_operand, write_on, written_on};
+use crate::operand::Operand;
+use crate::operand::as_operand;
+use crate::operand::lanes_of;
+use crate::operand::outside;
+use crate::operand::read_on;
+use crate::operand::second_operand;
+use crate::operand::write_on;
+use crate::operand::written_on;
 use crate::register::Register;
-use crate::states::{why_states, widths_differ};
+use crate::states::why_states;
+use crate::states::widths_differ;
+use codec::operation::Action;
+use codec::refusal::Refusal;
 ghost use mathlib.Core.Path.{_≡_};
 ghost use mathlib.Core.Bool.{true, not, cond, _&&_, _||_};
 ghost use Prim.Native.Nat.{_*_, _/_, _≤_, _<_};
@@ -57,7 +65,16 @@ fn lanes_differ(n: usize, m: usize, z: Operand) -> bool
 }
 
 // Everything moves: both sources are read, the lanes are calculated and written, in this order.
-fn carry_out(action: Action, a: Register, b: Register, d: Register, x: Operand, y: Operand, z: Operand, memory: &mut [u8]) -> Outcome
+fn carry_out(
+    action: Action,
+    a: Register,
+    b: Register,
+    d: Register,
+    x: Operand,
+    y: Operand,
+    z: Operand,
+    memory: &mut [u8],
+) -> Outcome
     requires { ⌜ Fitting (length (now memory)) a b d x y z ⌝ }
     ensures { λ r. ⌜ CarriedOut action (now (memory .entry)) a b d x y z (r .why) (r .first) (r .second) (r .destination) (now (memory .exit)) ⌝ }
 {
@@ -74,7 +91,15 @@ fn carry_out(action: Action, a: Register, b: Register, d: Register, x: Operand, 
 }
 
 // A calculation: the checks in document 01's order, and what it does if none applies. The sources are the same register if `same`.
-pub(crate) fn calculate(vl: u64, action: Action, same: bool, a: Register, b: Register, d: Register, memory: &mut [u8]) -> Outcome
+pub(crate) fn calculate(
+    vl: u64,
+    action: Action,
+    same: bool,
+    a: Register,
+    b: Register,
+    d: Register,
+    memory: &mut [u8],
+) -> Outcome
     requires { ⌜ ((8 ≤ vl) × (vl ≤ 64)) × (same ≡ true → b ≡ a) ⌝ }
     requires { ⌜ Good vl a × (Good vl b × Good vl d) ⌝ }
     ensures { λ r. ⌜ Calculated vl action (now (memory .entry)) a b d (r .why) (r .first) (r .second) (r .destination) (now (memory .exit)) ⌝ }

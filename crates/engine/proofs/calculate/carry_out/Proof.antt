@@ -21,12 +21,12 @@ other : {len : ℕ} {a b d : Register} {x y z : Operand} → Fitting len a b d x
 other f = subst IsWidth (sym (f .second)) (f .first)
 
 lanes-of-requires : tie.Need-lanes-of-requires
-lanes-of-requires c κs = 
+lanes-of-requires c κs =
     let f = c .before .before .pre in
     ((span (f .first), f .plain .0), (f .few .0, f .insideFirst))
 
 lanes-of-requires-2 : tie.Need-lanes-of-requires-2
-lanes-of-requires-2 c κs = 
+lanes-of-requires-2 c κs =
     let f = c .before .before .before .before .pre in
     ((span (other f), f .plain .1), (f .few .1, f .insideSecond))
 
@@ -38,13 +38,14 @@ seconds : (c : tie.After-lanes-of2) → let a = c .before .before .before .befor
 seconds c = c .lanes-of2 .ensures .1 .0
 
 combine-requires : tie.Need-combine-requires
-combine-requires c κs = 
-    let f = c .before .before .before .before .before .pre in
-    ((span (f .first), (firsts c ∙ sym (f .counts .1) ∙ sym (seconds c), few-lanes _ _ (span (f .first) .0) (rw (← firsts c) at (f .counts .0)))),
-    (c .before .before .lanes-of .ensures .1 .1, subst (λ w. Narrow w (laneList (c .lanes-of2 .result))) (f .second) (c .lanes-of2 .ensures .1 .1)))
+combine-requires c κs =
+    let f = c .before .before .before .before .before .pre in (
+      (span (f .first), (firsts c ∙ sym (f .counts .1) ∙ sym (seconds c), few-lanes _ _ (span (f .first) .0) (rw (← firsts c) at (f .counts .0)))),
+      (c .before .before .lanes-of .ensures .1 .1, subst (λ w. Narrow w (laneList (c .lanes-of2 .result))) (f .second) (c .lanes-of2 .ensures .1 .1)),
+    )
 
 write-on-requires : tie.Need-write-on-requires
-write-on-requires c κs = 
+write-on-requires c κs =
     let f = c .before .before .before .before .before .before .before .pre in
     let n : c .before .combine .result .count ≡ _ = c .before .combine .ensures .0 ∙ firsts (c .before .before) in
     ((span (f .third), few-lanes _ _ (span (f .first) .0) (rw (← n) at (f .counts .0))), λ t. (f .room t ∙ sym n, f .insideThird t))
@@ -53,7 +54,7 @@ read-on-requires : tie.Need-read-on-requires
 read-on-requires c κs = (span (c .before .before .before .before .before .before .before .before .before .before .pre .first), rw (← firsts (c .before .before .before .before .before)) at (c .before .before .before .before .before .before .before .before .before .before .pre .counts .0))
 
 read-on-requires-2 : tie.Need-read-on-requires-2
-read-on-requires-2 c κs = 
+read-on-requires-2 c κs =
     let f = c .before .before .before .before .before .before .before .before .before .before .before .pre in
     (span (other f), subst (λ w. c .before .before .before .before .before .before .lanes-of2 .result .count * w ≤ 64) (sym (f .second)) (rw (← seconds (c .before .before .before .before .before .before) ∙ f .counts .1) at (f .counts .0)))
 
@@ -64,16 +65,17 @@ same-length : tie.Need-same-length
 same-length c = search needs
 
 returns : tie.Need-returns
-returns c = 
+returns c =
     let e = c .before .before .before .before .before .before .before .combine .ensures .1 .0 in
     let p = c .before .before .before .before .before .before .before .before .before .before .lanes-of .ensures .0 in
     let q = c .before .before .before .before .before .before .before .before .lanes-of2 .ensures .0 in
     record {
-        done = refl;
-        read = rw p at (c .before .before .read-on .ensures);
-        other = rw q at (c .before .read-on2 .ensures);
-        written = rw (e, p, q) at (c .written-on .ensures);
-        stored = rw (e, p, q) at (c .before .before .before .before .before .write-on .ensures) }
+      done = refl;
+      read = rw p at (c .before .before .read-on .ensures);
+      other = rw q at (c .before .read-on2 .ensures);
+      written = rw (e, p, q) at (c .written-on .ensures);
+      stored = rw (e, p, q) at (c .before .before .before .before .before .write-on .ensures);
+    }
 
 pub carry-out-spec : {M : Type 1} → statement M
 carry-out-spec =

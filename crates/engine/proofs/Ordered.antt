@@ -1,0 +1,229 @@
+-- A calculation's checks on its operands, in document 01's order, and what it does once none applies.
+use Prim.Native.Nat.{ℕ, zero, suc, _+_, _*_, _/_, _≤_, _<_, min}
+use mathlib.Core.Path.{_≡_, refl, sym, _∙_, ap, ap₂, subst}
+use mathlib.Core.List.{List, [], _∷_, _++_}
+use mathlib.Core.Bool.{Bool, true, false, cond, not, _&&_, _||_}
+use native.Mathlib.Omega.{arith}
+use native.Mathlib.Nat.{le-div-iff-mul-le, le-refl}
+use lib.ListN.{length, take}
+use lib.Dec.{eqb, ltb}
+use borrow.Author.Tests.{eqb-true, eq-eqb, ltb-false, not-false}
+use Rattle.codec.specs.declared.operation.Action.{Action}
+use Rattle.codec.specs.declared.refusal.Refusal.{Refusal}
+use Rattle.codec.specs.declared.refusal.Refusal.the-variants.{Widths, LaneCounts, Outside}
+use Rattle.engine.specs.Chunks.{chunk, groupsOf}
+use Rattle.engine.specs.ChunkLaws.{chunk-lanes}
+use Rattle.engine.specs.Lanes.{lane, lanewise}
+use Rattle.engine.specs.Memory.{holding}
+use Rattle.engine.specs.Checks.{Check, _if_, firstOf}
+use Rattle.engine.specs.CheckLaws.{first-stops, first-goes}
+use Rattle.engine.specs.Calculate.{given, outside, sourceChecks, destinationChecks, checksOn, readFrom, writtenTo, memoryAfter}
+use Rattle.engine.specs.CalculationLaws.{or-false, and-false}
+use Rattle.engine.specs.EffectLaws.{open-store, given-fits, lanewise-length}
+use Rattle.engine.specs.Registers.{isOpen, isLoad, openLoad, openStore, shapeOf, nextChunk}
+use Rattle.engine.specs.Good.{IsWidth, Good}
+use Rattle.engine.specs.GoodLaws.{next, width-some}
+use Rattle.engine.specs.Configure.{unlessBecause}
+use Rattle.engine.specs.Plans.{allWithin, storedAt}
+use Rattle.engine.proofs.LaneCounts.{few-lanes}
+use Rattle.engine.specs.Operands.{Operates, lanesOf, resultsOn, whyOn, Calculated, Fitting, lanesOut, CarriedOut}
+use Rattle.engine.specs.OperandLaws.{source-count, source-outside, source-lanes, source-after, target-count, target-outside, target-after, target-memory}
+use Rattle.engine.specs.declared.check.Why.{Why}
+use Rattle.engine.specs.declared.check.Why.the-variants.{Nothing, Because}
+use Rattle.engine.specs.declared.register.Register.{Register}
+use Rattle.engine.specs.declared.operand.Operand.{Operand}
+
+abbrev pub states : Register → Register → Register → List Check
+states a b d = sourceChecks a ++ sourceChecks b ++ destinationChecks d
+
+-- 12, 13, and 14 for each register in turn
+abbrev pub after : Bool → Bool → Bool → Bool → Bool → List Check
+after w l x y z = Widths if w ∷ LaneCounts if l ∷ Outside if x ∷ Outside if y ∷ Outside if z ∷ []
+
+abbrev pub widths : Register → Register → Register → Bool
+widths a b d = not (eqb (a .width) (b .width)) || openStore d && not (eqb (a .width) (d .width))
+
+abbrev pub counts : Operand → Operand → Operand → Bool
+counts x y z = not (eqb (x .count) (y .count)) || z .live && ltb (z .count) (x .count)
+
+abbrev pub beyond : ℕ → Register → Operand → Bool
+beyond len r o = o .live && not (allWithin len (r .width) (take (o .count) (o .addresses)))
+
+module _ (vl : ℕ) (memory : List ℕ) (a b d : Register) where
+  -- the states refuse
+  pub states-stop : (w : Why) {x : Refusal} → w ≡ firstOf (states a b d) → w ≡ Because x → whyOn vl memory a b d ≡ w
+  states-stop w e f = first-stops (states a b d) _ w (sym e) f
+
+  -- they do not: the others decide
+  pub states-pass : firstOf (states a b d) ≡ Nothing
+      → whyOn vl memory a b d
+      ≡ firstOf (after (widths a b d)
+      (not (eqb (length (given vl memory a)) (length (given vl memory b))) || openStore d && ltb (length (nextChunk vl d)) (length (given vl memory a)))
+      (outside (length memory) a (nextChunk vl a)) (outside (length memory) b (nextChunk vl b)) (outside (length memory) d (take (length (given vl memory a)) (nextChunk vl d))))
+  states-pass e = first-goes (states a b d) _ e
+
+  -- the destination is no open load
+  no-load : firstOf (states a b d) ≡ Nothing → openLoad d ≡ false
+  no-load e =
+      let s = next _ _ _ (next _ _ _ (next _ _ _ e .1) .1) .1 in
+      let t = next _ _ _ (next _ _ _ (next _ _ _ s .1) .1) .1 in
+      next _ _ _ (next _ _ _ (next _ _ _ t .1) .1) .0
+
+  -- 12 refuses
+  pub widths-stop : firstOf (states a b d) ≡ Nothing → widths a b d ≡ true → whyOn vl memory a b d ≡ Because Widths
+  unfolding firstOf
+  widths-stop e f = states-pass e ∙ rw f
+
+same-store : (d : Register) → openLoad d ≡ false → openStore d ≡ isOpen (d .state)
+same-store d e = go (isOpen (d .state)) refl
+  where
+    go : (t : Bool) → isOpen (d .state) ≡ t → openStore d ≡ isOpen (d .state)
+    go true f = open-store d e f ∙ sym f
+    go false f = rw f
+
+module _ (vl : ℕ) (memory : List ℕ) (a b d : Register) (ga : Good vl a) (gb : Good vl b) (x y z : Operand)
+    (hx : Operates a (vl / a .width) (a .valid) x) (hy : Operates b (vl / b .width) (b .valid) y) (hz : Operates d (x .count) (x .count) z)
+    (e : firstOf (states a b d) ≡ Nothing) (w : widths a b d ≡ false) where
+  n : ℕ
+  n = length (given vl memory a)
+
+  first-count : x .count ≡ length (given vl memory a)
+  first-count = source-count vl memory a x hx
+
+  second-count : y .count ≡ length (given vl memory b)
+  second-count = source-count vl memory b y hy
+
+  store : openStore d ≡ isOpen (d .state)
+  store = same-store d (no-load vl memory a b d e)
+
+  -- both sources have one width, and so has a store
+  pub one-width : b .width ≡ a .width
+  one-width = sym (eqb-true _ _ (not-false _ (or-false _ _ w .0)))
+
+  pub store-width : isOpen (d .state) ≡ true → d .width ≡ a .width
+  store-width t = sym (eqb-true _ _ (not-false _ (and-false _ _ (or-false (not (eqb (a .width) (b .width))) _ w .1) (store ∙ t))))
+
+  -- there are no more lanes than the vector length has room for
+  fits : x .count * a .width ≤ vl
+  fits = rw first-count (given-fits vl memory a ga)
+
+  room : isOpen (d .state) ≡ true → x .count ≤ vl / d .width
+  room t = rw (store-width t) (le-div-iff-mul-le {k = a .width} (width-some (a .width) (ga .width)) .1 fits)
+
+  -- 13 and 14 by the operands
+  pub flags : whyOn vl memory a b d ≡ firstOf (after false (counts x y z) (beyond (length memory) a x) (beyond (length memory) b y) (beyond (length memory) d z))
+  flags =
+      let c : (z .live && ltb (z .count) (x .count)) ≡ (openStore d && ltb (length (nextChunk vl d)) (length (given vl memory a))) =
+      target-count vl (x .count) d z hz room ∙ ap₂ (λ s k. s && ltb (length (nextChunk vl d)) k) (sym store) first-count in
+      let l : counts x y z ≡ (not (eqb (length (given vl memory a)) (length (given vl memory b))) || openStore d && ltb (length (nextChunk vl d)) (length (given vl memory a))) =
+      ap₂ (λ s t. not s || t) (ap₂ eqb first-count second-count) c in
+      let o : beyond (length memory) d z ≡ outside (length memory) d (take (length (given vl memory a)) (nextChunk vl d)) =
+      target-outside vl (x .count) d z hz room (length memory) ∙ ap (λ k. outside (length memory) d (take k (nextChunk vl d))) first-count in
+      states-pass vl memory a b d e
+      ∙ (λ i. firstOf (after (w i) (sym l i) (sym (source-outside vl memory a x hx (length memory)) i) (sym (source-outside vl memory b y hy (length memory)) i) (sym o i)))
+
+  -- of an operand that is a source the lanes counted are the lanes given
+  source-cond : (r : Register) (o : Operand) → Operates r (vl / r .width) (r .valid) o → cond (o .live) (o .count) (r .valid) ≡ o .count
+  source-cond r o h = go (isOpen (r .state)) refl
+    where
+      go : (t : Bool) → isOpen (r .state) ≡ t → cond (o .live) (o .count) (r .valid) ≡ o .count
+      go true f = rw (h .told ∙ f)
+      go false f = rw (h .told ∙ f) (sym (rw f at (h .counted)))
+
+  -- what is left once no check applies
+  module _ (vl64 : vl ≤ 64) (gd : Good vl d) (l : counts x y z ≡ false) (ox : beyond (length memory) a x ≡ false) (oy : beyond (length memory) b y ≡ false) (oz : beyond (length memory) d z ≡ false) where
+    same-counts : x .count ≡ y .count
+    same-counts = eqb-true _ _ (not-false _ (or-false _ _ l .0))
+
+    pub store-room : isOpen (d .state) ≡ true → z .count ≡ x .count
+    store-room t =
+        let p : x .count ≤ z .count = ltb-false (z .count) (x .count) (and-false _ _ (or-false (not (eqb (x .count) (y .count))) _ l .1) (hz .told ∙ t)) in
+        let q : z .count ≤ x .count = rw (rw t at (hz .counted)) (chunk-lanes (groupsOf (shapeOf d)) (x .count) (d .moved)) in
+        omega arith
+
+    inside-all : (r : Register) (o : Operand) → beyond (length memory) r o ≡ false → o .live ≡ true → allWithin (length memory) (r .width) (take (o .count) (o .addresses)) ≡ true
+    inside-all r o f t = not-false _ (and-false _ _ f t)
+
+    live-open : z .live ≡ true → isOpen (d .state) ≡ true
+    live-open t = sym (hz .told) ∙ t
+
+    pub fitting : Fitting (length memory) a b d x y z
+    fitting = record {
+      first = ga .width;
+      second = one-width;
+      destination = λ t. store-width (live-open t);
+      third = gd .width;
+      counts = (rw (source-cond a x hx) (omega (arith, fits)), source-cond b y hy ∙ sym same-counts ∙ sym (source-cond a x hx));
+      plain = (omega (arith, ga .valid), omega (arith, gb .valid));
+      few = (few-lanes _ _ (width-some (a .width) (ga .width)) (omega (arith, fits)), few-lanes _ _ (width-some (a .width) (ga .width)) (rw same-counts at (omega-fits)));
+      room = λ t. store-room (live-open t) ∙ sym (source-cond a x hx);
+      insideFirst = inside-all a x ox;
+      insideSecond = inside-all b y oy;
+      insideThird = inside-all d z oz;
+    }
+      where
+        omega-fits : x .count * a .width ≤ 64
+        omega-fits = omega (arith, fits)
+
+    pub nothing : whyOn vl memory a b d ≡ Nothing
+    unfolding firstOf
+    nothing = flags ∙ rw (l, ox, oy, oz)
+
+    results-long : (action : Action) → length (resultsOn vl action memory a b) ≡ x .count
+    results-long action = lanewise-length _ (given vl memory a) (given vl memory b) (sym first-count ∙ same-counts ∙ second-count) ∙ sym first-count
+
+    pub carried : (action : Action) (why : Why) (r1 r2 r3 : Register) (m : List ℕ) → CarriedOut action memory a b d x y z why r1 r2 r3 m → Calculated vl action memory a b d why r1 r2 r3 m
+    carried action why r1 r2 r3 m c =
+        let p = source-lanes vl memory a x hx in
+        let q = source-lanes vl memory b y hy in
+        let o : lanesOut action memory a b x y ≡ resultsOn vl action memory a b = ap₂ (lanewise (lane action (8 * a .width))) p q in
+        let t : isOpen (d .state) ≡ true → z .count ≡ x .count = store-room in
+        let i = resultsOn vl action memory a b in
+        record {
+          refused = c .done ∙ sym nothing;
+          read = rw nothing (c .read ∙ ap (λ xs. cond (x .live) (holding (a .width) xs (x .after)) a) p ∙ source-after vl memory a x hx);
+          other = rw nothing (c .other ∙ ap (λ xs. cond (y .live) (holding (b .width) xs (y .after)) b) q ∙ source-after vl memory b y hy);
+          written = rw nothing (c .written ∙ ap (λ xs. cond (z .live) (z .after) (holding (a .width) xs d)) o ∙ target-after vl (x .count) d z hz room i (results-long action) t (a .width));
+          stored = rw nothing (c .stored ∙ ap (λ xs. cond (z .live) (storedAt memory (d .width) (take (z .count) (z .addresses)) xs) memory) o ∙ target-memory vl (x .count) d z hz room i (results-long action) t memory);
+        }
+
+-- a refused calculation leaves the registers and the memory as they were
+pub turned-down : (vl : ℕ) (action : Action) (memory : List ℕ) (a b d : Register) (w : Why) (x : Refusal) (r1 r2 r3 : Register) → whyOn vl memory a b d ≡ w → w ≡ Because x
+    → r1 ≡ a → r2 ≡ b → r3 ≡ d → Calculated vl action memory a b d w r1 r2 r3 memory
+turned-down vl action memory a b d w x r1 r2 r3 e f p q s = record {
+  refused = sym e;
+  read = rw (e ∙ f) p;
+  other = rw (e ∙ f) q;
+  written = rw (e ∙ f) s;
+  stored = rw (e ∙ f);
+}
+
+-- a source has at most 64 lanes, and a destination no more than are asked for
+pub source-few : (vl : ℕ) (memory : List ℕ) (r : Register) (o : Operand) → vl ≤ 64 → Good vl r → Operates r (vl / r .width) (r .valid) o → o .count ≤ 64
+source-few vl memory r o h g p =
+    few-lanes (o .count) (r .width) (width-some (r .width) (g .width)) (omega (arith, ap (λ k. k * r .width) (source-count vl memory r o p), given-fits vl memory r g))
+
+pub target-few : (n : ℕ) (d : Register) (o : Operand) → Operates d n n o → o .count ≤ n
+target-few n d o h = go (isOpen (d .state)) refl
+  where
+    go : (t : Bool) → isOpen (d .state) ≡ t → o .count ≤ n
+    go true e = rw (rw e at (h .counted)) (chunk-lanes (groupsOf (shapeOf d)) n (d .moved))
+    go false e = rw (rw e at (h .counted)) (le-refl n)
+
+-- the ways that a check on the operands refuses
+module _ (w : Why) (l p q s : Bool) (f : w ≡ firstOf (after false l p q s)) where
+  pub counts-stop : l ≡ true → w ≡ Because LaneCounts
+  unfolding firstOf
+  counts-stop e = f ∙ rw e
+
+  pub first-outside : l ≡ false → p ≡ true → w ≡ Because Outside
+  unfolding firstOf
+  first-outside e g = f ∙ rw (e, g)
+
+  pub second-outside : l ≡ false → p ≡ false → q ≡ true → w ≡ Because Outside
+  unfolding firstOf
+  second-outside e g h = f ∙ rw (e, g, h)
+
+  pub third-outside : l ≡ false → p ≡ false → q ≡ false → s ≡ true → w ≡ Because Outside
+  unfolding firstOf
+  third-outside e g h k = f ∙ rw (e, g, h, k)
