@@ -9,13 +9,13 @@
 --   in-machine, put-same, put-other, put-good   a register put back
 --   configured-put, configured-by, configured-own, configured-other, configured-good   the machine after an operation
 --   width-most, ready     what the code takes for granted
-use Prim.Native.Nat.{ℕ, zero, suc, _+_, _-_, _*_, _^_, _≤_, _<_}
+use Prim.Native.Nat.{ℕ, zero, suc, _+_, _^_, _≤_, _<_}
 use mathlib.Core.Path.{_≡_, refl, sym, _∙_, ap, subst}
 use mathlib.Core.Logic.{_≢_, ⊎-elim}
 use mathlib.Core.List.{List, [], _∷_, _++_, List·Memᴰ, List·Memᴰ·head, List·Memᴰ·tail, List·Memᴰ·cases-cons, List·Memᴰ·not-nil}
-use mathlib.Core.Bool.{Bool, true, false, cond, not, _&&_, _||_}
+use mathlib.Core.Bool.{Bool, true, false, cond, _&&_, _||_}
 use native.Mathlib.Omega.{arith}
-use lib.ListN.{length, getD, set, take, replicate, length-set, length-append, length-take, getD-replicate}
+use lib.ListN.{length, getD, set, replicate, length-set, length-append, length-take, getD-replicate}
 use lib.Seq.{getD-set-same, getD-set-other, set-getD}
 use lib.Dec.{leb, ltb, eqb}
 use lib.IntN.{natAbs}
@@ -35,14 +35,13 @@ use Rattle.codec.specs.declared.operation.Modifier as given
 use Rattle.codec.specs.declared.operation.Operation.{Operation}
 use Rattle.codec.specs.declared.operation.Operation.the-variants as op
 use Rattle.codec.specs.declared.refusal.Refusal.{Refusal}
-use Rattle.codec.specs.declared.refusal.Refusal.the-variants.{WrongState, TooMany, Misplaced, LowHigh, Product}
 use Rattle.engine.specs.Loops.{elements}
 use Rattle.engine.specs.Chunks.{height}
-use Rattle.engine.specs.Rules.{lowOrHigh, highsOf, product}
+use Rattle.engine.specs.Rules.{highsOf, product}
 use Rattle.engine.specs.Addresses.{noBytes, noElements}
 use Rattle.engine.specs.Checks.{Check, _if_, firstOf}
-use Rattle.engine.specs.Registers.{isConfiguring, isOpen, isFinished, noModifier, noShape, noPattern, fresh, noRegister, shapeOf, indexOf, stateAfter, movedTo, movedBy, freshMachine, reg, put}
-use Rattle.engine.specs.Configure.{openChecks, dimensionChecks, modifierChecks, uncovered, endChecks, opened, patterned, dimensioned, owned, modified, ended, registerOf, checksFor, applied, unlessBecause, whyNot, configured}
+use Rattle.engine.specs.Registers.{isConfiguring, isOpen, isFinished, noModifier, noShape, noPattern, fresh, noRegister, shapeOf, indexOf, movedTo, movedBy, freshMachine, reg, put}
+use Rattle.engine.specs.Configure.{dimensionChecks, modifierChecks, uncovered, endChecks, opened, patterned, dimensioned, owned, modified, ended, registerOf, checksFor, applied, unlessBecause, whyNot, configured}
 use Rattle.engine.specs.Good.{RangedModifier, Ranged, RangedPattern, Accepted, IsWidth, Standing, Good, AllGood}
 use Rattle.engine.specs.Places.{Ready}
 use Rattle.engine.specs.declared.stream.Modifier.{Modifier}
@@ -251,8 +250,8 @@ dimensioned-ranged d p h e q =
 -- what a dimension that is not refused finds
 pub dimension-passed : (r : Register) → firstOf (dimensionChecks r) ≡ Nothing → (isConfiguring (r .state) ≡ true) × (shapeOf r .dims < 7)
 dimension-passed r w =
-    let a = next WrongState (not (isConfiguring (r .state))) (TooMany if leb 7 (shapeOf r .dims) ∷ []) w in
-    let b = next TooMany (leb 7 (shapeOf r .dims)) [] (a .1) in
+    let a = next _ _ _ w in
+    let b = next _ _ _ (a .1) in
     (not-false (isConfiguring (r .state)) (a .0), leb-false 7 (shapeOf r .dims) (b .0))
 
 -- after a dimension that is not refused
@@ -308,10 +307,9 @@ target-most m e =
 pub modifier-passed : (target : ℕ) (r : Register) → firstOf (modifierChecks target r) ≡ Nothing
     → (isConfiguring (r .state) ≡ true) × (shapeOf r .mods < 8) × (target + 1 < shapeOf r .dims)
 modifier-passed target r w =
-    let last : Check = Misplaced if leb (shapeOf r .dims) (target + 1) in
-    let a = next WrongState (not (isConfiguring (r .state))) (TooMany if leb 8 (shapeOf r .mods) ∷ last ∷ []) w in
-    let b = next TooMany (leb 8 (shapeOf r .mods)) (last ∷ []) (a .1) in
-    let c = next Misplaced (leb (shapeOf r .dims) (target + 1)) [] (b .1) in
+    let a = next _ _ _ w in
+    let b = next _ _ _ (a .1) in
+    let c = next _ _ _ (b .1) in
     (not-false (isConfiguring (r .state)) (a .0), leb-false 8 (shapeOf r .mods) (b .0), leb-false (shapeOf r .dims) (target + 1) (c .0))
 
 -- after a modifier that is not refused
@@ -357,13 +355,10 @@ moved-good vl r g a n h =
 pub end-accepted : (r : Register) → Ranged (shapeOf r) → firstOf (endChecks r) ≡ Nothing → Accepted (shapeOf r)
 end-accepted r h w =
     let s : Shape = shapeOf r in
-    let four : Check = Product if ltb 1048576 (product (highsOf s)) in
-    let three : Check = LowHigh if lowOrHigh s in
-    let two : Check = Misplaced if (eqb (s .dims) 0 || uncovered s (s .coupling)) in
-    let a = next WrongState (not (isConfiguring (r .state))) (two ∷ three ∷ four ∷ []) w in
-    let b = next Misplaced (eqb (s .dims) 0 || uncovered s (s .coupling)) (three ∷ four ∷ []) (a .1) in
-    let c = next LowHigh (lowOrHigh s) (four ∷ []) (b .1) in
-    let d = next Product (ltb 1048576 (product (highsOf s))) [] (c .1) in
+    let a = next _ _ _ w in
+    let b = next _ _ _ (a .1) in
+    let c = next _ _ _ (b .1) in
+    let d = next _ _ _ (c .1) in
     let n = neither (eqb (s .dims) 0) (uncovered s (s .coupling)) (b .0) in
     record {
       ranged = h;
@@ -379,11 +374,7 @@ end-accepted r h w =
 
 -- a register that end does not refuse is being configured
 pub end-configuring : (r : Register) → firstOf (endChecks r) ≡ Nothing → isConfiguring (r .state) ≡ true
-end-configuring r w =
-    let s : Shape = shapeOf r in
-    not-false (isConfiguring (r .state))
-    (next WrongState (not (isConfiguring (r .state)))
-    (Misplaced if (eqb (s .dims) 0 || uncovered s (s .coupling)) ∷ LowHigh if lowOrHigh s ∷ Product if ltb 1048576 (product (highsOf s)) ∷ []) w .0)
+end-configuring r w = not-false (isConfiguring (r .state)) (next _ _ _ w .0)
 
 -- after end that is not refused
 pub ended-good : (vl : ℕ) (r : Register) → Good vl r → firstOf (endChecks r) ≡ Nothing → Good vl (ended r)

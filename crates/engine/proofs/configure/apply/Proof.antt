@@ -1,5 +1,4 @@
 -- `configure::apply` meets its contract: each kind of operation has its own function.
-use native.Mathlib.Omega.{arith}
 use mathlib.Core.Path.{refl, sym, _∙_, ap}
 use Rattle.codec.specs.Operations.{operationInRange}
 use Rattle.engine.specs.Checks.{firstOf}

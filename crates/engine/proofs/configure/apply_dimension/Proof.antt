@@ -1,5 +1,4 @@
 -- `configure::apply_dimension` meets its contract: the refusal is that of the checks, and only where there is none is the register changed.
-use native.Mathlib.Omega.{arith}
 use mathlib.Core.Path.{refl, sym, _∙_}
 use Rattle.engine.specs.GoodLaws.{dimension-passed}
 use borrow.Author.Needs.{needs}

@@ -1,5 +1,4 @@
 -- `configure::apply_end` meets its contract: the refusal is that of the checks, and only where there is none is the register changed.
-use native.Mathlib.Omega.{arith}
 use mathlib.Core.Path.{refl, sym, _∙_}
 use Rattle.engine.specs.GoodLaws.{end-accepted, end-configuring}
 use borrow.Author.Needs.{needs}
@@ -13,7 +12,10 @@ enum-told : tie.Need-enum-told
 enum-told c = search needs
 
 ended-requires : tie.Need-ended-requires
-ended-requires c κs = (end-accepted (c .before .before .before .args .r) (c .before .before .before .pre .0) (sym (c .before .before .why-end .ensures) ∙ c .enum-told .given .1), c .before .before .before .pre .1 (end-configuring (c .before .before .before .args .r) (sym (c .before .before .why-end .ensures) ∙ c .enum-told .given .1)))
+ended-requires c κs =
+    let s = c .before .before .before in
+    let w = sym (c .before .before .why-end .ensures) ∙ c .enum-told .given .1 in
+    (end-accepted (s .args .r) (s .pre .0) w, s .pre .1 (end-configuring (s .args .r) w))
 
 enum-known-why : tie.Need-enum-known-why
 enum-known-why c = search needs

@@ -13,7 +13,10 @@ enum-told : tie.Need-enum-told
 enum-told c = search needs
 
 with-modifier-requires : tie.Need-with-modifier-requires
-with-modifier-requires c κs = let p = modifier-passed (c .before .before .before .args .m .target) (c .before .before .before .args .r) (sym (c .before .before .why-modifier .ensures) ∙ c .enum-told .given .1) in (p .1, omega (arith, p .2))
+with-modifier-requires c κs =
+    let s = c .before .before .before in
+    let p = modifier-passed (s .args .m .target) (s .args .r) (sym (c .before .before .why-modifier .ensures) ∙ c .enum-told .given .1) in
+    (p .1, omega (arith, p .2))
 
 enum-known-why : tie.Need-enum-known-why
 enum-known-why c = search needs

@@ -1,5 +1,4 @@
 -- `configure::apply_open` meets its contract: the refusal is that of the checks, and only where there is none is the register changed.
-use native.Mathlib.Omega.{arith}
 use mathlib.Core.Path.{refl, sym, _∙_}
 use borrow.Author.Needs.{needs}
 use Rattle.engine.proofs.configure.apply_open.Statement.{statement}

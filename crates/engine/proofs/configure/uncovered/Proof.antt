@@ -1,5 +1,4 @@
 -- `configure::uncovered` meets its contract: a coupled dimension is missing if it is above the dimensions that there are.
-use native.Mathlib.Omega.{arith}
 use borrow.Author.Needs.{needs}
 use Rattle.engine.proofs.configure.uncovered.Statement.{statement}
 use Rattle.engine.proofs.configure.uncovered.Tie as tie
