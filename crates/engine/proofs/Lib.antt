@@ -13,3 +13,5 @@ mod PlaceSteps
 mod LaneSteps
 mod LaneCounts
 mod Ordered
+mod BodySteps
+mod SheetSteps

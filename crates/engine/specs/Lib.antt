@@ -17,6 +17,7 @@ pub mod Lanes
 pub mod Calculate
 pub mod Run
 pub mod Sheets
+pub mod Bodies
 pub mod Good
 pub mod Walk
 pub mod WalkLaws

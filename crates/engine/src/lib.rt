@@ -15,6 +15,7 @@ pub mod register;
 mod rules;
 pub mod run;
 pub mod shape;
+mod sheet;
 mod size;
 mod states;
 pub mod stream;

@@ -11,7 +11,7 @@ ghost use Rattle.engine.specs.Registers.{isOpen, isFinished};
 ghost use Rattle.engine.specs.Questions.{yesOrNo, askFlag, askEnd};
 
 // Whether a register has an ended stream.
-fn has_stream(k: State) -> bool
+pub(crate) fn has_stream(k: State) -> bool
     ensures { λ q. ⌜ q ≡ (isOpen k || isFinished k) ⌝ }
 {
     if is_open(k) {

@@ -1,0 +1,47 @@
+-- A sheet's body and ending as the code keeps them: an array of sixteen steps with their count, and what reading it told.
+--
+--   bodyOf                       the calculations of a body
+--   calculationsOf, endingIs, preparedIs   what was told, in the definitions' words
+--   turnOf                       whether an operation is a run
+use Prim.Native.Nat.{ℕ}
+use mathlib.Core.List.{List, []}
+use lib.ListN.{take}
+use Rattle.engine.specs.Sheets.{Calculations, whole, broken, Ending, over, runs, refused}
+use Rattle.engine.specs.Sheets
+use Rattle.engine.specs.declared.run.Placed.{Placed}
+use Rattle.engine.specs.declared.sheet.Steps.{Steps}
+use Rattle.engine.specs.declared.sheet.Reading as reading
+use Rattle.engine.specs.declared.sheet.Reading.the-variants as told
+use Rattle.engine.specs.declared.sheet.Ending as ending
+use Rattle.engine.specs.declared.sheet.Ending.the-variants as ended
+use Rattle.engine.specs.declared.sheet.Prepared as prepared
+use Rattle.engine.specs.declared.sheet.Turn as turn
+use Rattle.engine.specs.declared.sheet.Turn.the-variants as turns
+use Rattle.codec.specs.declared.operation.Operation.{Operation}
+use Rattle.codec.specs.declared.operation.Operation.the-variants as op
+
+-- the calculations of a body: the first steps
+abbrev pub bodyOf : Steps → List Placed
+bodyOf b = take (b .count) (b .steps)
+
+-- a body read whole or broken
+abbrev pub calculationsOf : reading.Reading → List Placed → Calculations
+calculationsOf (told.Whole at) cs = whole cs at
+calculationsOf (told.Broken x place) cs = broken x place
+
+-- how the operations of a sheet ended
+abbrev pub endingIs : ending.Ending → List Placed → Ending
+endingIs ended.Over cs = over
+endingIs (ended.Runs loop) cs = runs loop cs
+endingIs (ended.Refused x place) cs = refused x place
+
+abbrev pub preparedIs : prepared.Prepared → Sheets.Prepared
+preparedIs p = record { machine = p .machine; ending = endingIs (p .ending) (bodyOf (p .body)) }
+
+-- what an operation is to the sheet: a run, or one that configures
+abbrev pub turnOf : Operation → turn.Turn
+turnOf (op.Open h base) = turns.Configures
+turnOf (op.Dimension d) = turns.Configures
+turnOf (op.Modifier m) = turns.Configures
+turnOf (op.End i) = turns.Configures
+turnOf (op.Run i n) = turns.Run i n
