@@ -15,3 +15,4 @@ mod LaneCounts
 mod Ordered
 mod BodySteps
 mod SheetSteps
+mod PassSteps

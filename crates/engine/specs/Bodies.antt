@@ -3,11 +3,16 @@
 --   bodyOf                       the calculations of a body
 --   calculationsOf, endingIs, preparedIs   what was told, in the definitions' words
 --   turnOf                       whether an operation is a run
+--   progressOf, Executed         an answer and the memory with it, in the definitions' words
 use Prim.Native.Nat.{ℕ}
+use mathlib.Core.Path.{_≡_}
 use mathlib.Core.List.{List, []}
 use lib.ListN.{take}
 use Rattle.engine.specs.Sheets.{Calculations, whole, broken, Ending, over, runs, refused}
 use Rattle.engine.specs.Sheets
+use Rattle.engine.specs.Run.{Progress, execute}
+use Rattle.engine.specs.declared.register.Machine.{Machine}
+use Rattle.engine.specs.declared.run.Answer.{Answer}
 use Rattle.engine.specs.declared.run.Placed.{Placed}
 use Rattle.engine.specs.declared.sheet.Steps.{Steps}
 use Rattle.engine.specs.declared.sheet.Reading as reading
@@ -45,3 +50,11 @@ turnOf (op.Dimension d) = turns.Configures
 turnOf (op.Modifier m) = turns.Configures
 turnOf (op.End i) = turns.Configures
 turnOf (op.Run i n) = turns.Run i n
+
+-- an answer and the memory with it
+abbrev pub progressOf : Answer → List ℕ → Progress
+progressOf r memory = record { world = record { machine = r .machine; memory = memory }; report = r .report; verdict = r .verdict }
+
+-- the passes of a run gave this answer and this memory
+abbrev pub Executed : ℕ → ℕ → List Placed → Machine → List ℕ → Answer → List ℕ → Type 0
+Executed vl loop body m memory r after = progressOf r after ≡ execute vl loop body (record { machine = m; memory = memory })

@@ -3,6 +3,7 @@ mod address;
 mod calculate;
 pub mod check;
 pub mod configure;
+mod execute;
 mod gain;
 mod height;
 mod lane;
