@@ -46,4 +46,5 @@ pub mod HistoryLaws
 pub mod RunLaws
 pub mod StepLaws
 pub mod EndLaws
-pub mod Bench
+pub mod SheetLaws
+pub mod Table
