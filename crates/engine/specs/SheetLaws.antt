@@ -1,14 +1,15 @@
 -- Laws of whole sheets.
 --
 --   operations-over, read-on                  the bound on the operations is never felt
---   onward, operations-next, prepare-onward   the operations from a place on: their equation without the bound
+--   onward, operations-next, onward-next, onward-over, prepare-onward   the operations from a place on: their equations without the bound
 --   AllInRange, all-named, body-read          the calculations of a body that was read
 --   Runs, Follows, Left                       what is known of a run that follows, and of what the operations leave
 --   operations-good, prepare-good             the operations of a sheet leave that
 --   allowed-lanes, worldOf, runs-running      what holds before the first pass
+--   run-lengths, run-ends                     the answer of a sheet, by its lengths and by how its operations end
 --   from-good, run-good                       the registers that a sheet leaves are good
 --   Passes, run-passes                        a sheet that ends in a run
-use Prim.Native.Nat.{ℕ, zero, suc, _+_, _-_, _%_, _≤_, _<_}
+use Prim.Native.Nat.{ℕ, zero, suc, _-_, _%_, _≤_, _<_}
 use mathlib.Core.Path.{_≡_, refl, sym, _∙_, ap, subst}
 use mathlib.Core.List.{List, [], _∷_}
 use mathlib.Core.Bool.{Bool, true, false, cond, _&&_, _||_}
@@ -26,15 +27,14 @@ use Rattle.codec.specs.declared.operation.Decoded.{Decoded}
 use Rattle.codec.specs.declared.operation.Decoded.the-variants as decoded
 use Rattle.codec.specs.declared.operation.Body.{Body}
 use Rattle.codec.specs.declared.operation.Body.the-variants as body
-use Rattle.codec.specs.declared.refusal.Refusal.{Refusal}
 use Rattle.codec.specs.declared.refusal.Refusal.the-variants.{OutOfRange, Lengths, LoopRegister}
 use Rattle.engine.specs.Registers.{isFinished, isOpen, isLoad, reg, freshMachine}
 use Rattle.engine.specs.Configure.{whyNot, configured}
 use Rattle.engine.specs.Calculate.{World}
-use Rattle.engine.specs.Run.{Progress, begun, execute}
+use Rattle.engine.specs.Run.{begun, execute}
 use Rattle.engine.specs.Sheets.{Calculations, whole, broken, before, onCalculation, bodyAt, names, isLoopRegister, Ending, over, runs, refused, endingOf, Prepared, onOperation, onDecoded, operationsFrom, prepare, allowed, onEnding, refusedAt, runFrom, run}
 use Rattle.engine.specs.Good.{AllGood}
-use Rattle.engine.specs.GoodLaws.{fresh-machine-good, in-machine, configured-good}
+use Rattle.engine.specs.GoodLaws.{fresh-machine-good, configured-good}
 use Rattle.engine.specs.CalculationLaws.{both, named}
 use Rattle.engine.specs.HistoryLaws.{AllNamed}
 use Rattle.engine.specs.EndLaws.{Running, running-begun, execute-finishes, execute-good}
@@ -42,7 +42,7 @@ use Rattle.engine.specs.declared.check.Why.{Why}
 use Rattle.engine.specs.declared.check.Why.the-variants.{Nothing, Because}
 use Rattle.engine.specs.declared.register.Machine.{Machine}
 use Rattle.engine.specs.declared.run.Placed.{Placed}
-use Rattle.engine.specs.declared.run.Verdict.the-variants.{Done, Refused}
+use Rattle.engine.specs.declared.run.Verdict.the-variants.{Done}
 
 -- ---- the bound
 
@@ -107,6 +107,14 @@ operations-next (suc n) s at m p h l =
     operations-turn n s at m h
     ∙ decoded-same s at m (operationAt s at) (operationsFrom n s) (onward s)
     (λ o c q e. let on : at < c .at = operation-read s at o c p e .on in read-on n (length s - c .at) s (c .at) q p (omega arith) (omega arith))
+
+-- one operation from here, then those from the place behind it on
+pub onward-next : (s : List ℕ) (at : ℕ) (m : Machine) → areBytes s → at < length s → onward s at m ≡ onDecoded s at m (operationAt s at) (onward s)
+onward-next s at m p h = operations-next (length s - at) s at m p h (omega arith)
+
+-- none where no byte is left
+pub onward-over : (s : List ℕ) (at : ℕ) (m : Machine) → length s ≤ at → onward s at m ≡ record { machine = m; ending = over }
+onward-over s at m h = operations-over (length s - at) s at m h
 
 -- a whole sheet is read from its first byte on
 pub prepare-onward : (s : List ℕ) (m : Machine) → prepare s m ≡ onward s 0 m
@@ -243,6 +251,19 @@ allowed-lanes vl len e =
 abbrev pub worldOf : List ℕ → Machine → List ℕ → World
 worldOf s m memory = record { machine = prepare s m .machine; memory = memory }
 
+-- lengths that are not allowed are refused before all else
+pub run-lengths : (m : Machine) (vl : ℕ) (s memory : List ℕ) → allowed vl (length memory) ≡ false
+    → runFrom m vl s memory ≡ refusedAt (record { machine = m; memory = memory }) Lengths 0
+run-lengths m vl s memory a =
+    ap (λ b. cond b (onEnding vl (worldOf s m memory) (prepare s m .ending)) (refusedAt (record { machine = m; memory = memory }) Lengths 0)) a
+
+-- else the sheet is what follows its operations
+pub run-ends : (m : Machine) (vl : ℕ) (s memory : List ℕ) (d : Ending) → allowed vl (length memory) ≡ true → prepare s m .ending ≡ d
+    → runFrom m vl s memory ≡ onEnding vl (worldOf s m memory) d
+run-ends m vl s memory d a e =
+    ap (λ b. cond b (onEnding vl (worldOf s m memory) (prepare s m .ending)) (refusedAt (record { machine = m; memory = memory }) Lengths 0)) a
+    ∙ ap (onEnding vl (worldOf s m memory)) e
+
 -- a run that follows is in good order before its first pass
 pub runs-running : (vl loop : ℕ) (cs : List Placed) (w : World) → 8 ≤ vl → AllGood vl (w .machine) → Runs loop cs (w .machine) → Running vl loop cs (begun w)
 runs-running vl loop cs w l g r = running-begun vl loop cs w l (r .below) (all-named cs (r .range)) g (r .is-loop)
@@ -297,6 +318,4 @@ run-passes m vl s memory loop cs p g a e = record {
     r = runs-running vl loop cs w (allowed-lanes vl (length memory) a) (prepare-good vl s m p g .good) f
 
     x : runFrom m vl s memory ≡ execute vl loop cs w
-    x =
-        ap (λ b. cond b (onEnding vl w (prepare s m .ending)) (refusedAt (record { machine = m; memory = memory }) Lengths 0)) a
-        ∙ ap (onEnding vl w) e
+    x = run-ends m vl s memory (runs loop cs) a e

@@ -1,15 +1,15 @@
 -- 01's bench rows, computed from the definitions: sheets of bytes, read and run.
 --
---   Answer, answer, askedFlag, askedEnd   an answer by 01's numbers
+--   Answer, answer, askedFlag, askedEnd   answers by 01's numbers
+--   register, prepared, addresses         a register; the machine that a sheet's operations leave; the addresses of its register 1
 --   Seen, watched                         what each pass of a sheet's run leaves in register 1
---   triangle .. pair                      the sheets
+--   copies, triangle .. three             the sheets
 --   rows                                  the starred rows, together
 --   examples                              others of 01
-use Prim.Native.Nat.{ℕ, zero, suc, _+_, _-_, _*_}
+use Prim.Native.Nat.{ℕ, zero, suc, _+_}
 use mathlib.Core.Path.{_≡_, refl}
 use mathlib.Core.List.{List, [], _∷_, _++_, map}
-use mathlib.Core.Bool.{cond}
-use lib.ListN.{length, replicate}
+use lib.ListN.{length}
 use lib.IntN.{ℤ, pos}
 use Rattle.codec.specs.Refusals.{numberOf}
 use Rattle.codec.specs.Numbers.{groupsAt, numberAt, signedOf}
@@ -44,135 +44,135 @@ use Rattle.engine.specs.declared.run.Verdict.the-variants.{Done, Refused
 -- ---- answers
 
 -- a sheet's answer: "A refusal gives its number, a place and both counts"
-data Answer : Type 0 where
+pub data Answer : Type 0 where
   done : ℕ → ℕ → Answer
   refusal : ℕ → ℕ → ℕ → ℕ → Answer
 
-answerOf : Verdict → Report → Answer
+unfoldable pub answerOf : Verdict → Report → Answer
 answerOf Done r = done (r .passes) (r .calculations)
 answerOf (Refused x place) r = refusal (numberOf x) place (r .passes) (r .calculations)
 
-answer : Progress → Answer
+unfoldable pub answer : Progress → Answer
 answer g = answerOf (g .verdict) (g .report)
 
 -- what is told: yes, no, or the number of a refusal
-data Heard : Type 0 where
+pub data Heard : Type 0 where
   yes : Heard
   no : Heard
   untold : ℕ → Heard
 
-heard : Told → Heard
+unfoldable pub heard : Told → Heard
 heard Yes = yes
 heard No = no
 heard (Untold x) = untold (numberOf x)
 
-askedFlag : Machine → ℕ → ℕ → Heard
+unfoldable pub askedFlag : Machine → ℕ → ℕ → Heard
 askedFlag m i d = heard (askFlag m i d)
 
-askedEnd : Machine → ℕ → Heard
+unfoldable pub askedEnd : Machine → ℕ → Heard
 askedEnd m i = heard (askEnd m i)
 
 -- ---- what is looked at
 
-register : ℕ → Machine → Register
+unfoldable pub register : ℕ → Machine → Register
 register i m = reg m i
 
 -- the machine that a sheet's operations leave
-prepared : List ℕ → Machine
+unfoldable pub prepared : List ℕ → Machine
 prepared s = prepare s freshMachine .machine
 
 -- the addresses of register 1's elements
-addresses : List ℕ → List ℤ
+unfoldable pub addresses : List ℕ → List ℤ
 addresses s =
     let r : Register = register 1 (prepared s) in
     map (address (r .pattern) (r .width)) (elements (shapeOf r))
 
 -- register 1 after a pass: its valid lanes, the flags of dimensions 1 and 2, the end of stream
-record Seen : Type 0 where
-  lanes : ℕ
-  flag1 : Heard
-  flag2 : Heard
-  end : Heard
+pub record Seen : Type 0 where
+  pub lanes : ℕ
+  pub flag1 : Heard
+  pub flag2 : Heard
+  pub end : Heard
 
-seen : ℕ → Heard → Heard → Heard → Seen
+unfoldable pub seen : ℕ → Heard → Heard → Heard → Seen
 seen n a b e = record { lanes = n; flag1 = a; flag2 = b; end = e }
 
-lookedAt : Machine → Seen
+unfoldable pub lookedAt : Machine → Seen
 lookedAt m = seen (register 1 m .valid) (askedFlag m 1 1) (askedFlag m 1 2) (askedEnd m 1)
 
 -- after each of n passes
-trail : ℕ → List Placed → ℕ → Progress → List Seen
+unfoldable pub trail : ℕ → List Placed → ℕ → Progress → List Seen
 trail vl cs zero g = []
 trail vl cs (suc n) g = let q : Progress = counted (pass vl cs g) in lookedAt (q .world .machine) ∷ trail vl cs n q
 
-trailOf : ℕ → ℕ → World → Ending → List Seen
+unfoldable pub trailOf : ℕ → ℕ → World → Ending → List Seen
 trailOf vl n w over = []
 trailOf vl n w (runs loop cs) = trail vl cs n (begun w)
 trailOf vl n w (refused x place) = []
 
 -- before the first of n passes of a sheet's run, and after each
-watched : ℕ → ℕ → List ℕ → List ℕ → List Seen
+unfoldable pub watched : ℕ → ℕ → List ℕ → List ℕ → List Seen
 watched vl n s memory =
     lookedAt (prepared s) ∷ trailOf vl n (record { machine = prepared s; memory = memory }) (prepare s freshMachine .ending)
 
 -- ---- sheets
 
 -- a run of one calculation, a copy of register 1 to register 2
-copies : List ℕ
+unfoldable pub copies : List ℕ
 copies = 5 ∷ 1 ∷ 1 ∷ 0 ∷ 2 ∷ 1 ∷ 1 ∷ []
 
 -- "Bytes, base 0, dimension 1 size 1 stride 1, dimension 2 size 4 stride 8, size of 1 grows by 1", behind a header
-grown : List ℕ → List ℕ
+unfoldable pub grown : List ℕ → List ℕ
 grown header =
     (1 ∷ header)
     ++ (0 ∷ 2 ∷ 1 ∷ 0 ∷ 1 ∷ 2 ∷ 2 ∷ 1 ∷ 0 ∷ 4 ∷ 0x10 ∷ 3 ∷ 1 ∷ 0 ∷ 0 ∷ 0 ∷ 1 ∷ 4 ∷ 1 ∷ [])
 
 -- load B, register 1
-triangle : List ℕ
+unfoldable pub triangle : List ℕ
 triangle = grown (0x8b ∷ 0x81 ∷ 1 ∷ [])
 
 -- "Coupled to 1"
-coupled : List ℕ
+unfoldable pub coupled : List ℕ
 coupled = grown (0x8b ∷ 0x81 ∷ 0x81 ∷ 0x80 ∷ 4 ∷ [])
 
--- "Size 4 shrinking by 1"
-shrunk : ℕ → List ℕ
+-- "Size 4 shrinking by 1", n rows
+unfoldable pub shrunk : ℕ → List ℕ
 shrunk n =
     1 ∷ 0x8b ∷ 0x81 ∷ 1 ∷ 0 ∷ 2 ∷ 1 ∷ 0 ∷ 4 ∷ 2 ∷ 2 ∷ 1 ∷ 0 ∷ n ∷ 0x10 ∷ 3 ∷ 1 ∷ 0 ∷ 0 ∷ 1 ∷ 1 ∷ 4 ∷ 1 ∷ []
 
--- 1,024 elements, 1,024 and n times
-square : ℕ → List ℕ
-square n = 1 ∷ 0x8b ∷ 0x81 ∷ 1 ∷ 0 ∷ 2 ∷ 1 ∷ 0 ∷ 0x80 ∷ 8 ∷ 2 ∷ 2 ∷ 1 ∷ 0 ∷ (0x80 + n) ∷ 8 ∷ 2 ∷ 4 ∷ 1 ∷ []
+-- dimension 1 size 1,024, which is 80 08; dimension 2 of a size as it is written
+unfoldable pub square : List ℕ → List ℕ
+square n = (1 ∷ 0x8b ∷ 0x81 ∷ 1 ∷ 0 ∷ 2 ∷ 1 ∷ 0 ∷ 0x80 ∷ 8 ∷ 2 ∷ 2 ∷ 1 ∷ 0 ∷ []) ++ n ++ (2 ∷ 4 ∷ 1 ∷ [])
 
 -- "Words, base 4, size 5, stride 2": header 5608Bh
-words : List ℕ
+unfoldable pub words : List ℕ
 words = 1 ∷ 0x8b ∷ 0xc1 ∷ 0x15 ∷ 4 ∷ 2 ∷ 1 ∷ 0 ∷ 5 ∷ 4 ∷ 4 ∷ 1 ∷ []
 
 -- "Loop nests": the 42 bytes
-nest : List ℕ
+unfoldable pub nest : List ℕ
 nest =
     0x01 ∷ 0x8b ∷ 0x81 ∷ 0x01 ∷ 0x00 ∷ 0x02 ∷ 0x01 ∷ 0x00 ∷ 0x03 ∷ 0x02 ∷ 0x04 ∷ 0x01 ∷ 0x01 ∷ 0x8b ∷ 0x82 ∷ 0x01 ∷ 0x08 ∷ 0x02
     ∷ 0x02 ∷ 0x00 ∷ 0x03 ∷ 0x02 ∷ 0x04 ∷ 0x02 ∷ 0x01 ∷ 0x8b ∷ 0x03 ∷ 0x10 ∷ 0x02 ∷ 0x03 ∷ 0x00 ∷ 0x03 ∷ 0x02 ∷ 0x04 ∷ 0x03 ∷ 0x05
     ∷ 0x01 ∷ 0x01 ∷ 0x01 ∷ 0x03 ∷ 0x01 ∷ 0x02 ∷ []
 
 -- 20 bytes in register 1, copied to register 2 and then to register 3: the body names the loop register twice
-twice : List ℕ
+unfoldable pub twice : List ℕ
 twice =
     1 ∷ 0x8b ∷ 0x81 ∷ 1 ∷ 0 ∷ 2 ∷ 1 ∷ 0 ∷ 20 ∷ 2 ∷ 4 ∷ 1 ∷ 5 ∷ 1 ∷ 2 ∷ 0 ∷ 2 ∷ 1 ∷ 1 ∷ 0 ∷ 3 ∷ 1 ∷ 1 ∷ []
 
 -- the triangle in register 1; register 2 being configured; a stream without elements in register 3
-three : List ℕ
+unfoldable pub three : List ℕ
 three = triangle ++ (1 ∷ 0x8b ∷ 0x82 ∷ 1 ∷ 0 ∷ 1 ∷ 0x8b ∷ 0x83 ∷ 1 ∷ 0 ∷ 2 ∷ 3 ∷ 0 ∷ 0 ∷ 2 ∷ 4 ∷ 3 ∷ [])
 
 -- n bytes: from k on
-bytes : ℕ → ℕ → List ℕ
+unfoldable pub bytes : ℕ → ℕ → List ℕ
 bytes k zero = []
 bytes k (suc n) = k ∷ bytes (suc k) n
 
 -- ---- the rows
 
 -- the starred rows
-rows :
+pub rows :
     (addresses triangle ≡ pos 0 ∷ pos 8 ∷ pos 9 ∷ pos 16 ∷ pos 17 ∷ pos 18 ∷ pos 24 ∷ pos 25 ∷ pos 26 ∷ pos 27 ∷ [])
     × (watched 8 2 (triangle ++ copies) (bytes 0 28) ≡ seen 0 no no no ∷ seen 8 no no no ∷ seen 2 yes yes yes ∷ [])
     × (answer (run 8 (triangle ++ copies) (bytes 0 28)) ≡ done 2 2)
@@ -180,9 +180,11 @@ rows :
     ≡ seen 0 no no no ∷ seen 1 yes no no ∷ seen 2 yes no no ∷ seen 3 yes no no ∷ seen 4 yes yes yes ∷ [])
     × (answer (run 8 (coupled ++ copies) (bytes 0 28)) ≡ done 4 4)
     × (length (elements (shapeOf (register 1 (prepared (shrunk 5))))) ≡ 10)
-    × (answer (run 8 (shrunk 6) []) ≡ refusal 8 21 0 0)
-    × (answer (run 8 (square 0) []) ≡ done 0 0)
-    × (answer (run 8 (square 1) []) ≡ refusal 9 17 0 0)
+    × (register 1 (run 8 (shrunk 5 ++ copies) (bytes 0 40) .world .machine) .moved ≡ 10)
+    × (answer (run 8 (shrunk 5 ++ copies) (bytes 0 40)) ≡ done 2 2)
+    × (answer (run 8 (shrunk 6 ++ copies) (bytes 0 40)) ≡ refusal 8 21 0 0)
+    × (answer (run 8 (square (0x80 ∷ 8 ∷ [])) []) ≡ done 0 0)
+    × (answer (run 8 (square (0x81 ∷ 8 ∷ [])) []) ≡ refusal 9 17 0 0)
     × (addresses words ≡ pos 4 ∷ pos 12 ∷ pos 20 ∷ pos 28 ∷ pos 36 ∷ [])
     × (watched 16 2 (words ++ copies) (bytes 0 40) ≡ seen 0 no (untold 2) no ∷ seen 4 no (untold 2) no ∷ seen 1 yes (untold 2) yes ∷ [])
     × (answer (run 16 (words ++ copies) (bytes 0 39)) ≡ refusal 14 15 1 1)
@@ -195,10 +197,10 @@ unfolding answerOf answer heard askedFlag askedEnd register prepared addresses s
     addressUpTo valueAt littleEndian stored lanesFrom joined holding lanewise
     given results allInside refusalOf readFrom writtenTo memoryAfter effect
     firstOf nextChunk movedBy toCome whyNot configured askFlag askEnd pass repeat bodyAt names operationsFrom
-rows = (refl, refl, refl, refl, refl, refl, refl, refl, refl, refl, refl, refl, refl, refl)
+rows = (refl, refl, refl, refl, refl, refl, refl, refl, refl, refl, refl, refl, refl, refl, refl, refl)
 
 -- "Memory 40 suffices"; the sheet of "Loop nests" adds three bytes; a loop register that the body names twice; the two questions
-examples :
+pub examples :
     (answer (run 16 (words ++ copies) (bytes 0 40)) ≡ done 2 2)
     × (contents (register 2 (run 16 (words ++ copies) (bytes 0 40) .world .machine)) ≡ 0x27262524 ∷ [])
     × (contents (register 2 (run 16 (words ++ copies) (bytes 0 39) .world .machine)) ≡ 0x07060504 ∷ 0x0f0e0d0c ∷ 0x17161514 ∷ 0x1f1e1d1c ∷ [])
