@@ -16,3 +16,4 @@ mod Ordered
 mod BodySteps
 mod SheetSteps
 mod PassSteps
+mod WholeSteps

@@ -4,6 +4,7 @@
 --   calculationsOf, endingIs, preparedIs   what was told, in the definitions' words
 --   turnOf                       whether an operation is a run
 --   progressOf, Executed         an answer and the memory with it, in the definitions' words
+--   verdictOf, settledOf         what some operations of a sheet leave
 use Prim.Native.Nat.{ℕ}
 use mathlib.Core.Path.{_≡_}
 use mathlib.Core.List.{List, []}
@@ -13,6 +14,9 @@ use Rattle.engine.specs.Sheets
 use Rattle.engine.specs.Run.{Progress, execute}
 use Rattle.engine.specs.declared.register.Machine.{Machine}
 use Rattle.engine.specs.declared.run.Answer.{Answer}
+use Rattle.engine.specs.declared.run.Settled.{Settled}
+use Rattle.engine.specs.declared.run.Verdict.{Verdict}
+use Rattle.engine.specs.declared.run.Verdict.the-variants.{Done, Refused}
 use Rattle.engine.specs.declared.run.Placed.{Placed}
 use Rattle.engine.specs.declared.sheet.Steps.{Steps}
 use Rattle.engine.specs.declared.sheet.Reading as reading
@@ -58,3 +62,13 @@ progressOf r memory = record { world = record { machine = r .machine; memory = m
 -- the passes of a run gave this answer and this memory
 abbrev pub Executed : ℕ → ℕ → List Placed → Machine → List ℕ → Answer → List ℕ → Type 0
 Executed vl loop body m memory r after = progressOf r after ≡ execute vl loop body (record { machine = m; memory = memory })
+
+-- the verdict so far: a run that follows is not yet executed
+abbrev pub verdictOf : Ending → Verdict
+verdictOf over = Done
+verdictOf (runs loop cs) = Done
+verdictOf (refused x place) = Refused x place
+
+-- the registers after some operations of a sheet, and the verdict so far
+abbrev pub settledOf : Sheets.Prepared → Settled
+settledOf p = record { verdict = verdictOf (p .ending); machine = p .machine }
