@@ -1,0 +1,54 @@
+-- `number_bytes` is safe and ends.
+use native.Mathlib.Omega.{arith}
+use Prim.Native.Nat.{_-_}
+use mathlib.Core.Path.{_≡_, refl}
+use lib.ListN.{length, length-set}
+use borrow.Author.Needs.{needs}
+use Rattle.bench.proofs.number_bytes.Statement.{statement}
+use Rattle.bench.proofs.number_bytes.Tie as tie
+use Rattle.bench.proofs.low.Reads as low-reads
+
+abbrev Inv-loop : tie.InvT-loop
+Inv-loop memory₀ k₀ memory k = length memory ≡ length memory₀
+
+abbrev μ-loop : tie.MeasureT-loop
+μ-loop memory₀ k₀ memory k = length memory₀ - k
+
+loop-holds : tie.Need-loop-holds Inv-loop μ-loop
+loop-holds c = refl
+
+low-requires : tie.Need-low-requires Inv-loop μ-loop
+low-requires c κs = omega arith
+
+slice-write-memory : tie.Need-slice-write-memory Inv-loop μ-loop
+slice-write-memory c = omega arith
+
+add-k : tie.Need-add-k Inv-loop μ-loop
+add-k c = omega arith
+
+loop-less : tie.Need-loop-less Inv-loop μ-loop
+loop-less c = omega arith
+
+loop-again : tie.Need-loop-again Inv-loop μ-loop
+loop-again c = search (needs, length-set)
+
+same-length : tie.Need-same-length Inv-loop μ-loop
+same-length c = search needs
+
+returns : tie.Need-returns Inv-loop μ-loop
+returns c = search needs
+
+pub number-bytes-spec : {M : Type 1} → statement M
+number-bytes-spec =
+    tie.close
+    (tie.spec
+    Inv-loop
+    μ-loop
+    loop-holds
+    low-requires
+    slice-write-memory
+    add-k
+    loop-less
+    loop-again
+    same-length
+    returns)
