@@ -35,11 +35,11 @@ fn why_source(r: Register) -> Why
 fn why_destination(r: Register) -> Why
     ensures { λ q. ⌜ q ≡ firstOf (destinationChecks r) ⌝ }
 {
-    let k = r.state;
-    if is_configuring(k) {
+    let state = r.state;
+    if is_configuring(state) {
         return Why::Because(Refusal::WrongState);
     }
-    if is_finished(k) {
+    if is_finished(state) {
         return Why::Because(Refusal::StreamEnded);
     }
     if open_load(r) {
