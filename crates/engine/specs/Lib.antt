@@ -29,6 +29,7 @@ pub mod BoundLaws
 pub mod CountLaws
 pub mod AddressLaws
 pub mod Places
+pub mod Allowed
 pub mod CheckLaws
 pub mod LaneLaws
 pub mod SignedLaws
@@ -47,4 +48,8 @@ pub mod RunLaws
 pub mod StepLaws
 pub mod EndLaws
 pub mod SheetLaws
+pub mod Histories
+pub mod Given
+pub mod Promise1
+pub mod Promise2
 pub mod Table

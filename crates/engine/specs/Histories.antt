@@ -1,0 +1,161 @@
+-- The history of a run: each completed calculation, what it read and wrote, and the worlds between.
+--
+--   PassEnds, Chunk          where a coupled pass ends; a chunk of a stream
+--   Gives, Becomes, Stores   the lanes of a source; each register, and memory, after a calculation
+--   Did                      one completed calculation
+--   Entry, Follow            a history: each calculation goes on where the one before it ended
+--   worldAt, movedOf         the world at a moment of it; the elements that a register moved in it
+--   inTurn, checksIn, Ran    the history of a run
+use Prim.Native.Nat.{ℕ, zero, suc, _+_, _-_, _*_, _/_, _%_, _≤_, _<_}
+use mathlib.Core.Path.{_≡_}
+use mathlib.Core.Logic.{_⊎_}
+use mathlib.Core.List.{List, [], _∷_, _++_, map}
+use lib.ListN.{length, getD, take, drop}
+use Rattle.codec.specs.declared.header.Coupling.the-variants.{Coupled}
+use Rattle.codec.specs.declared.operation.Action.the-variants.{Copy}
+use Rattle.codec.specs.declared.operation.Calculation.{Calculation}
+use Rattle.codec.specs.declared.refusal.Refusal.{Refusal}
+use Rattle.engine.specs.Loops.{elements}
+use Rattle.engine.specs.Memory.{fetch, stored, contents, holding}
+use Rattle.engine.specs.Lanes.{lane, lanewise}
+use Rattle.engine.specs.Registers.{shapeOf, movedTo, reg}
+use Rattle.engine.specs.Calculate.{World, checksOn, given}
+use Rattle.engine.specs.Run.{Progress}
+use Rattle.engine.specs.Allowed.{Calculates}
+use Rattle.engine.specs.GoodLaws.{First}
+use Rattle.engine.specs.Checks.{Check}
+use Rattle.engine.specs.declared.stream.Shape.{Shape}
+use Rattle.engine.specs.declared.register.State.the-variants.{Plain, Open, Finished}
+use Rattle.engine.specs.declared.register.Register.{Register}
+use Rattle.engine.specs.declared.run.Placed.{Placed}
+use Rattle.engine.specs.declared.run.Verdict.the-variants.{Done, Refused}
+
+-- the element at place n is not of the pass of the coupled dimension that the one before it is of
+pub record PassEnds (s : Shape) (n : ℕ) : Type 0 where
+  pub dimension : ℕ
+  pub coupled : s .coupling ≡ Coupled dimension
+  pub other : ¬ (drop dimension (getD (elements s) (n - 1) []) ≡ drop dimension (getD (elements s) n []))
+
+-- "the next elements of the loop, as many as there are lanes, fewer at the end of the stream or, if coupled, at the end of the current
+-- pass of that dimension": a chunk after n elements
+pub record Chunk (s : Shape) (lanes n : ℕ) (vs : List (List ℕ)) : Type 0 where
+  -- the next elements
+  pub front : vs ≡ take (length vs) (drop n (elements s))
+  pub most : length vs ≤ lanes
+  -- if coupled they are of one pass of dimension c (counted from 1): no index above it differs
+  pub one-pass : (c : ℕ) → s .coupling ≡ Coupled c → (k : ℕ) → suc k < length vs → drop c (getD vs k []) ≡ drop c (getD vs (suc k) [])
+  -- fewer only at the end of the stream, or of the pass
+  pub full : length vs < lanes → (n + length vs ≡ length (elements s)) ⊎ PassEnds s (n + length vs)
+
+-- ---- one calculation
+
+-- the lanes of a source: "A plain register gives its valid lanes", "An open load stream .. its next chunk", with the values that memory
+-- holds; vs are the elements that it moves
+pub data Gives (vl : ℕ) (memory : List ℕ) (r : Register) (vs : List (List ℕ)) (xs : List ℕ) : Type 0 where
+  plain : r .state ≡ Plain → vs ≡ [] → xs ≡ contents r → Gives vl memory r vs xs
+  load : r .state ≡ Open → Chunk (shapeOf r) (vl / r .width) (r .moved) vs → xs ≡ map (fetch (r .pattern) (r .width) memory) vs
+      → Gives vl memory r vs xs
+
+-- register i after calculation c, which calculated the lanes `out`; vs are the elements that it moved
+pub data Becomes (vl : ℕ) (c : Calculation) (w : World) (out : List ℕ) (i : ℕ) (vs : List (List ℕ)) (q : Register) : Type 0 where
+  -- "A plain destination takes the lanes and width, zeros behind"
+  plain : i ≡ c .destination → reg (w .machine) i .state ≡ Plain → vs ≡ []
+      → q ≡ holding (reg (w .machine) (c .first) .width) out (reg (w .machine) i) → Becomes vl c w out i vs q
+  -- "A store stream .. moves on by n"
+  store : i ≡ c .destination → reg (w .machine) i .state ≡ Open
+      → vs ≡ take (length out) (drop (reg (w .machine) i .moved) (elements (shapeOf (reg (w .machine) i))))
+      → q ≡ movedTo (reg (w .machine) i .moved + length out) (reg (w .machine) i) → Becomes vl c w out i vs q
+  -- "The chunk becomes the register's content", zeros behind; the stream has moved on by it
+  load : ¬ (i ≡ c .destination) → (i ≡ c .first) ⊎ (i ≡ c .second) → reg (w .machine) i .state ≡ Open
+      → Chunk (shapeOf (reg (w .machine) i)) (vl / reg (w .machine) i .width) (reg (w .machine) i .moved) vs
+      → q
+      ≡ movedTo (reg (w .machine) i .moved + length vs)
+      (holding (reg (w .machine) i .width) (map (fetch (reg (w .machine) i .pattern) (reg (w .machine) i .width) (w .memory)) vs) (reg (w .machine) i))
+      → Becomes vl c w out i vs q
+  -- a plain source stays
+  source : ¬ (i ≡ c .destination) → (i ≡ c .first) ⊎ (i ≡ c .second) → reg (w .machine) i .state ≡ Plain → vs ≡ [] → q ≡ reg (w .machine) i
+      → Becomes vl c w out i vs q
+  -- so does every other register
+  other : ¬ (i ≡ c .destination) → ¬ (i ≡ c .first) → ¬ (i ≡ c .second) → vs ≡ [] → q ≡ reg (w .machine) i → Becomes vl c w out i vs q
+
+-- memory after it: as it was, or with the lanes stored one after the other at the store's next elements
+pub data Stores (c : Calculation) (w : World) (out : List ℕ) (vs : List (List ℕ)) (memory : List ℕ) : Type 0 where
+  nothing : reg (w .machine) (c .destination) .state ≡ Plain → memory ≡ w .memory → Stores c w out vs memory
+  lanes : reg (w .machine) (c .destination) .state ≡ Open
+      → memory ≡ stored (reg (w .machine) (c .destination) .pattern) (reg (w .machine) (c .destination) .width) (w .memory) vs out
+      → Stores c w out vs memory
+
+-- one completed calculation, from w to v: nothing refuses it; `taken i` are the elements that register i moves
+pub record Did (vl : ℕ) (c : Calculation) (w v : World) (taken : ℕ → List (List ℕ)) : Type 0 where
+  pub calculates : Calculates vl c w
+  pub first : List ℕ
+  pub second : List ℕ
+  pub gives-first : Gives vl (w .memory) (reg (w .machine) (c .first)) (taken (c .first)) first
+  pub gives-second : Gives vl (w .memory) (reg (w .machine) (c .second)) (taken (c .second)) second
+  -- the operation, lane by lane, of both sources' lanes
+  pub out : List ℕ
+  pub calculated : out ≡ lanewise (lane (c .action) (8 * reg (w .machine) (c .first) .width)) first second
+  pub registers : length (v .machine .registers) ≡ 32
+  pub becomes : (i : ℕ) → i < 32 → Becomes vl c w out i (taken i) (reg (v .machine) i)
+  pub stores : Stores c w out (taken (c .destination)) (v .memory)
+
+-- ---- a history
+
+-- a completed calculation, what the registers moved in it, and the world after it
+pub record Entry : Type 0 where
+  pub calculation : Placed
+  pub taken : ℕ → List (List ℕ)
+  pub after : World
+
+-- from w to v: each calculation begins in the world that the one before it left
+unfoldable pub Follow : ℕ → World → List Entry → World → Type 0
+Follow vl w [] v = w ≡ v
+Follow vl w (e ∷ es) v = Did vl (e .calculation .calculation) w (e .after) (e .taken) × Follow vl (e .after) es v
+
+-- the world after k of them
+unfoldable pub worldAt : World → List Entry → ℕ → World
+worldAt w es zero = w
+worldAt w [] (suc k) = w
+worldAt w (e ∷ es) (suc k) = worldAt (e .after) es k
+
+-- the elements that register i moved in them, joined in order
+unfoldable pub movedOf : List Entry → ℕ → List (List ℕ)
+movedOf [] i = []
+movedOf (e ∷ es) i = e .taken i ++ movedOf es i
+
+-- ---- a run
+
+-- calculation k of a body that is repeated
+abbrev pub noPlaced : Placed
+noPlaced = record { place = 0; calculation = record { action = Copy; destination = 0; first = 0; second = 0 } }
+
+abbrev pub inTurn : List Placed → ℕ → Placed
+inTurn body k = getD body (k % length body) noPlaced
+
+-- the checks of a calculation in a world
+abbrev pub checksIn : ℕ → Calculation → World → List Check
+checksIn vl c w =
+    checksOn vl (length (w .memory))
+    (length (given vl (w .memory) (reg (w .machine) (c .first))))
+    (length (given vl (w .memory) (reg (w .machine) (c .second))))
+    (reg (w .machine) (c .first))
+    (reg (w .machine) (c .second))
+    (reg (w .machine) (c .destination))
+
+-- "Run repeats the body while the loop register's stream is open": r is the answer of a run from w
+pub record Ran (vl loop : ℕ) (body : List Placed) (w : World) (r : Progress) : Type 0 where
+  pub entries : List Entry
+  pub follow : Follow vl w entries (r .world)
+  pub turns : (k : ℕ) → k < length entries → getD (map (λ (e : Entry). e .calculation) entries) k noPlaced ≡ inTurn body k
+  -- both counts
+  pub calculations : r .report .calculations ≡ length entries
+  pub passes : r .report .passes ≡ length entries / length body
+  -- each pass began with the loop register's stream open
+  pub began : (k : ℕ) → k < length entries → k % length body ≡ 0 → reg (worldAt w entries k .machine) loop .state ≡ Open
+  -- done: after whole passes, once the stream is finished
+  pub done : r .verdict ≡ Done → (length entries % length body ≡ 0) × (reg (r .world .machine) loop .state ≡ Finished)
+  -- refused: the next calculation in turn is, by the first check that applies, at its place; a pass had begun
+  pub refused : (x : Refusal) (at : ℕ) → r .verdict ≡ Refused x at
+      → First (checksIn vl (inTurn body (length entries) .calculation) (r .world)) x
+      × (at ≡ inTurn body (length entries) .place)
+      × (length entries % length body ≡ 0 → reg (r .world .machine) loop .state ≡ Open)
