@@ -51,5 +51,6 @@ pub mod SheetLaws
 pub mod Histories
 pub mod Given
 pub mod Promise1
+pub mod GivenLaws
 pub mod Promise2
 pub mod Table
