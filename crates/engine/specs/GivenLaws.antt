@@ -1,6 +1,6 @@
 -- What the operations of a sheet gave for a register is what the register has.
 --
---   Bears, Inside               a register with a stream's descriptors; a stream, some of whose elements have moved
+--   Bears, elementsOf, Inside   a register with a stream's descriptors; its elements; a stream, some of whose elements have moved
 --   Has, fresh-has              a register has what was given; a fresh one, nothing
 --   filled-more, plusDimension, dimensioned-given, plusModifier, modified-given   one dimension, one modifier more
 --   own-has, other-given, after-has   after an operation: its own register; every other; any
@@ -43,11 +43,15 @@ pub record Bears (t : Stream) (r : Register) : Type 0 where
   pub width : r .width ≡ bytesOf (t .header .width)
   pub most : length (t .dimensions) ≤ 7
 
+-- the elements of a stream
+abbrev pub elementsOf : Stream → List (List ℕ)
+elementsOf t = elements (patternOf t .shape)
+
 -- the stream t in a register, when the elements soFar have moved
 pub record Inside (t : Stream) (soFar : List (List ℕ)) (r : Register) : Type 0 where
   pub bears : Bears t r
   pub moved : r .moved ≡ length soFar
-  pub each-once : soFar ++ drop (length soFar) (elements (patternOf t .shape)) ≡ elements (patternOf t .shape)
+  pub each-once : soFar ++ drop (length soFar) (elementsOf t) ≡ elementsOf t
   pub state : r .state ≡ stateAfter (patternOf t .shape) (length soFar)
   pub height : r .height ≡ height (patternOf t .shape) (length soFar)
 
@@ -141,7 +145,7 @@ while-going : (g : Given) (r : Register) (P : Given → Type 0) → r .state ≡
     → ((t : Stream) → Bears t r → r .moved ≡ 0 → P (going t)) → P g
 while-going none r P c h f = plain-not (r .state) h c
 while-going (going t) r P c h f = f t (h .0) (h .2)
-while-going (ended t) r P c h f = ended-not (leb (length (elements (patternOf t .shape))) 0) (r .state) (h .state) c
+while-going (ended t) r P c h f = ended-not (leb (length (elementsOf t)) 0) (r .state) (h .state) c
 
 -- after a dimension
 dimension-has : (d : Dimension) (t : Stream) (r : Register) → Bears t r → shapeOf r .dims < 7 → Bears (plusDimension d t) (patterned (dimensioned d (r .pattern)) r)

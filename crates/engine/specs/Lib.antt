@@ -52,5 +52,7 @@ pub mod Histories
 pub mod Given
 pub mod Promise1
 pub mod GivenLaws
+pub mod MomentLaws
+pub mod MovingLaws
 pub mod Promise2
 pub mod Table

@@ -1,0 +1,139 @@
+-- A stream moves on: by a calculation, and over a history.
+--
+--   inside-goes                      a stream goes on by a calculation that is not refused
+--   world-last                       the world after all of a history
+--   in-turn-named, each-named        calculations that name registers
+--   did-inside, follow-inside        a stream goes on by a completed calculation; at every moment of a history
+use Prim.Native.Nat.{ℕ, zero, suc, _+_, _≤_, _<_}
+use mathlib.Core.Path.{_≡_, refl, sym, _∙_, ap, subst}
+use mathlib.Core.Logic.{_↔_}
+use mathlib.Core.List.{List, [], _∷_, _++_, map, append-assoc, append-nil}
+use mathlib.Core.Bool.{true}
+use native.Mathlib.Omega.{arith}
+use lib.ListN.{length, getD, take, drop, length-append, take-append-drop}
+use lib.Seq.{drop-drop, take-take, length-take-le}
+use Rattle.codec.specs.declared.operation.Calculation.{Calculation}
+use Rattle.engine.specs.Loops.{elements}
+use Rattle.engine.specs.Chunks.{height}
+use Rattle.engine.specs.Memory.{holding}
+use Rattle.engine.specs.Registers.{isOpen, shapeOf, nextChunk, stateAfter, movedBy, reg}
+use Rattle.engine.specs.Calculate.{World, given, results, refusalOf, effect}
+use Rattle.engine.specs.Good.{Good, AllGood}
+use Rattle.engine.specs.ComeLaws.{come-open, next-front}
+use Rattle.engine.specs.CalculationLaws.{never, Named}
+use Rattle.engine.specs.EffectGood.{effect-good}
+use Rattle.engine.specs.StreamLaws.{movedIn, goes}
+use Rattle.engine.specs.HistoryLaws.{AllNamed}
+use Rattle.engine.specs.Allowed.{Calculates}
+use Rattle.engine.specs.Histories.{noPlaced, Did, Entry, Follow, worldAt, movedOf}
+use Rattle.engine.specs.Given.{Stream, patternOf}
+use Rattle.engine.specs.GivenLaws.{Bears, elementsOf, Inside}
+use Rattle.engine.specs.MomentLaws.{inside-stream}
+use Rattle.engine.specs.declared.check.Why.the-variants.{Nothing}
+use Rattle.engine.specs.declared.register.Register.{Register}
+use Rattle.engine.specs.declared.run.Placed.{Placed}
+
+-- ---- a calculation
+
+-- those that have moved and the next n, then those to come
+next-once : {A : Type 0} (soFar vs all : List A) (n : ℕ) → length vs ≡ n → vs ≡ take n (drop (length soFar) all) → soFar ++ drop (length soFar) all ≡ all
+    → (soFar ++ vs) ++ drop (length (soFar ++ vs)) all ≡ all
+next-once soFar vs all n k e once =
+    append-assoc soFar vs (drop (length (soFar ++ vs)) all)
+    ∙ ap (λ l. soFar ++ l)
+    (ap (λ j. vs ++ drop j all) (length-append soFar vs ∙ ap (λ j. length soFar + j) k)
+    ∙ ap (λ l. vs ++ l) (sym (drop-drop n (length soFar) all))
+    ∙ ap (λ l. l ++ drop n (drop (length soFar) all)) e
+    ∙ take-append-drop n (drop (length soFar) all))
+    ∙ once
+
+-- the next n elements have moved; the register's lanes may be others
+inside-on : (t : Stream) (soFar vs : List (List ℕ)) (n : ℕ) (r q : Register) → Inside t soFar r → Bears t q → q .moved ≡ r .moved → length vs ≡ n
+    → vs ≡ take n (drop (r .moved) (elements (shapeOf r))) → Inside t (soFar ++ vs) (movedBy n q)
+unfolding movedBy
+inside-on t soFar vs n r q s b m k e =
+    let z : q .moved + n ≡ length (soFar ++ vs) = omega (arith, s .moved, length-append soFar vs) in
+    let p : q .pattern ≡ patternOf t = b .pattern in
+    record {
+      bears = record { pattern = p; kind = b .kind; width = b .width; most = b .most };
+      moved = z;
+      each-once = next-once soFar vs (elementsOf t) n k (e ∙ (λ j. take n (drop (s .moved j) (elements (s .bears .pattern j .shape))))) (s .each-once);
+      state = λ j. stateAfter (p j .shape) (z j);
+      height = λ j. height (p j .shape) (z j);
+    }
+
+-- a stream goes on so by a calculation that is not refused
+pub inside-goes : (vl : ℕ) (c : Calculation) (w : World) (i : ℕ) (t : Stream) (soFar : List (List ℕ)) → i < length (w .machine .registers)
+    → refusalOf vl c w ≡ Nothing → Good vl (reg (w .machine) i) → Inside t soFar (reg (w .machine) i)
+    → Inside t (soFar ++ movedIn vl c w i) (reg (effect vl c w .machine) i)
+unfolding holding
+inside-goes vl c w i t soFar h e g s =
+    goes vl c w i (λ q vs. Inside t (soFar ++ vs) q) h e
+    (record {
+      idle = subst (λ l. Inside t l r) (sym (append-nil soFar)) s;
+      kept = λ o f. never (sym (rw (o, f)) ∙ inside-stream t soFar r s);
+      loaded = λ o. inside-on t soFar (nextChunk vl r) (length (nextChunk vl r)) r _ s (bears (s .bears)) refl refl (front o);
+      stored =
+          λ o k. inside-on t soFar _ (length (results vl c w)) r r s (s .bears) refl (length-take-le (length (results vl c w)) (nextChunk vl r) k)
+          (ap (take (length (results vl c w))) (front o) ∙ take-take (length (results vl c w)) (length (nextChunk vl r)) _ k);
+    })
+  where
+    r : Register
+    r = reg (w .machine) i
+
+    bears : Bears t r → Bears t (holding (r .width) (given vl (w .memory) r) r)
+    bears b = record { pattern = b .pattern; kind = b .kind; width = b .width; most = b .most }
+
+    front : isOpen (r .state) ≡ true → nextChunk vl r ≡ take (length (nextChunk vl r)) (drop (r .moved) (elements (shapeOf r)))
+    front o = next-front vl r g o ∙ ap (take (length (nextChunk vl r))) (come-open r o)
+
+-- ---- a history
+
+-- the world after all of a history is its last
+pub world-last : (vl : ℕ) (es : List Entry) (w v : World) → Follow vl w es v → worldAt w es (length es) ≡ v
+unfolding Follow worldAt
+world-last vl [] w v f = f
+world-last vl (e ∷ es) w v f = world-last vl es (e .after) v (f .1)
+
+-- each calculation of a body names registers
+pub in-turn-named : (cs : List Placed) → AllNamed cs → (k : ℕ) → Named (getD cs k noPlaced .calculation)
+unfolding AllNamed
+in-turn-named [] nm k = record { first = omega arith; second = omega arith; destination = omega arith }
+in-turn-named (c ∷ cs) nm zero = nm .0
+in-turn-named (c ∷ cs) nm (suc k) = in-turn-named cs (nm .1) k
+
+-- and the reverse
+pub each-named : (cs : List Placed) → ((k : ℕ) → k < length cs → Named (getD cs k noPlaced .calculation)) → AllNamed cs
+unfolding AllNamed
+each-named [] f = tt
+each-named (c ∷ cs) f = (f 0 (omega arith), each-named cs (λ k h. f (suc k) (omega arith)))
+
+module _
+    (did-moved : (vl : ℕ) (c : Calculation) (w v : World) (taken : ℕ → List (List ℕ)) → 8 ≤ vl → AllGood vl (w .machine) → Named c → Did vl c w v taken
+    → (v ≡ effect vl c w) × ((i : ℕ) → i < 32 → taken i ≡ movedIn vl c w i))
+    (calculates-clear : (vl : ℕ) (c : Calculation) (w : World) → (refusalOf vl c w ≡ Nothing) ↔ Calculates vl c w)
+  where
+    -- a stream goes on by a completed calculation, which leaves all registers good
+    pub did-inside : (vl : ℕ) (c : Calculation) (w v : World) (taken : ℕ → List (List ℕ)) (i : ℕ) (t : Stream) (soFar : List (List ℕ)) → 8 ≤ vl
+        → AllGood vl (w .machine) → Named c → Did vl c w v taken → i < 32 → Inside t soFar (reg (w .machine) i)
+        → AllGood vl (v .machine) × Inside t (soFar ++ taken i) (reg (v .machine) i)
+    did-inside vl c w v taken i t soFar l g nm d h s =
+        let e : refusalOf vl c w ≡ Nothing = calculates-clear vl c w .1 (d .calculates) in
+        let m = did-moved vl c w v taken l g nm d in
+        let x : AllGood vl (effect vl c w .machine) × Inside t (soFar ++ taken i) (reg (effect vl c w .machine) i) = (
+          effect-good vl c w g nm e,
+          subst (λ vs. Inside t (soFar ++ vs) (reg (effect vl c w .machine) i)) (sym (m .1 i h)) (inside-goes vl c w i t soFar (omega (arith, g .all)) e (g .good i h) s),
+        ) in
+        subst (λ u. AllGood vl (u .machine) × Inside t (soFar ++ taken i) (reg (u .machine) i)) (sym (m .0)) x
+
+    -- at every moment of a history
+    pub follow-inside : (vl : ℕ) (es : List Entry) (w v : World) (i : ℕ) (t : Stream) (soFar : List (List ℕ)) (k : ℕ) → 8 ≤ vl → AllGood vl (w .machine)
+        → AllNamed (map (λ (e : Entry). e .calculation) es) → Follow vl w es v → i < 32 → Inside t soFar (reg (w .machine) i)
+        → Inside t (soFar ++ movedOf (take k es) i) (reg (worldAt w es k .machine) i)
+    unfolding Follow worldAt movedOf AllNamed
+    follow-inside vl es w v i t soFar zero l g nm f h s = subst (λ vs. Inside t vs (reg (w .machine) i)) (sym (append-nil soFar)) s
+    follow-inside vl [] w v i t soFar (suc k) l g nm f h s = subst (λ vs. Inside t vs (reg (w .machine) i)) (sym (append-nil soFar)) s
+    follow-inside vl (e ∷ es) w v i t soFar (suc k) l g nm f h s =
+        let d = did-inside vl (e .calculation .calculation) w (e .after) (e .taken) i t soFar l g (nm .0) (f .0) h s in
+        subst (λ vs. Inside t vs (reg (worldAt (e .after) es k .machine) i)) (append-assoc soFar (e .taken i) (movedOf (take k es) i))
+        (follow-inside vl es (e .after) v i t (soFar ++ e .taken i) k l (d .0) (nm .1) (f .1) h (d .1))
