@@ -49,6 +49,8 @@ pub mod StepLaws
 pub mod EndLaws
 pub mod SheetLaws
 pub mod Histories
+pub mod InStep
+pub mod InStepLaws
 pub mod Given
 pub mod Promise1
 pub mod GivenLaws
