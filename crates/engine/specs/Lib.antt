@@ -56,5 +56,6 @@ pub mod Promise1
 pub mod GivenLaws
 pub mod MomentLaws
 pub mod MovingLaws
+pub mod Offered
 pub mod Promise2
 pub mod Table
