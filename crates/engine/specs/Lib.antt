@@ -49,6 +49,7 @@ pub mod StepLaws
 pub mod EndLaws
 pub mod SheetLaws
 pub mod Histories
+pub mod ChunkExact
 pub mod Given
 pub mod Promise1
 pub mod Promise2
