@@ -50,6 +50,8 @@ pub mod EndLaws
 pub mod SheetLaws
 pub mod Histories
 pub mod ChunkExact
+pub mod AfterLaws
+pub mod DidLaws
 pub mod Given
 pub mod Promise1
 pub mod Promise2
