@@ -52,6 +52,10 @@ pub mod Histories
 pub mod ChunkExact
 pub mod AfterLaws
 pub mod DidLaws
+pub mod TurnLaws
+pub mod RoundLaws
+pub mod EntryLaws
+pub mod RanLaws
 pub mod Given
 pub mod Promise1
 pub mod Promise2
