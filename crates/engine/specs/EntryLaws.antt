@@ -6,9 +6,9 @@
 --   entries-follow                      each goes on where the one before it ended
 --   Followed, followed                  and a history is that of its calculations
 use Prim.Native.Nat.{ℕ, zero, suc, _%_, _≤_, _<_}
-use mathlib.Core.Path.{_≡_, refl, sym, _∙_, ap, subst}
+use mathlib.Core.Path.{_≡_, refl, sym, _∙_, ap, ap₂, subst}
 use mathlib.Core.Logic.{_↔_}
-use mathlib.Core.List.{List, [], _∷_, map}
+use mathlib.Core.List.{List, [], _∷_, _++_, map}
 use native.Mathlib.Omega.{arith}
 use native.Mathlib.Nat.{mod-lt}
 use lib.ListN.{length, getD, take, length-map}
@@ -19,9 +19,9 @@ use Rattle.engine.specs.Good.{AllGood}
 use Rattle.engine.specs.CalculationLaws.{Named}
 use Rattle.engine.specs.EffectGood.{effect-good}
 use Rattle.engine.specs.StreamLaws.{movedIn}
-use Rattle.engine.specs.HistoryLaws.{AllNamed, Completed, afterAll}
-use Rattle.engine.specs.Histories.{Entry, Follow, worldAt, noPlaced, inTurn}
-use Rattle.engine.specs.DidLaws.{did-effect, did-one}
+use Rattle.engine.specs.HistoryLaws.{AllNamed, Completed, afterAll, movedOver}
+use Rattle.engine.specs.Histories.{Entry, Follow, worldAt, movedOf, noPlaced, inTurn}
+use Rattle.engine.specs.DidLaws.{did-effect, did-taken, did-one}
 use Rattle.engine.specs.declared.check.Why.the-variants.{Nothing}
 use Rattle.engine.specs.declared.run.Placed.{Placed}
 
@@ -74,11 +74,12 @@ entries-world vl w cs zero = refl
 entries-world vl w [] (suc k) = refl
 entries-world vl w (c ∷ cs) (suc k) = entries-world vl (effect vl (c .calculation) w) cs k
 
--- the calculations of a history are not refused, and its worlds are those that they leave
+-- the calculations of a history are not refused, and its worlds and what it moved are theirs
 pub record Followed (vl : ℕ) (w : World) (es : List Entry) (v : World) : Type 0 where
   pub completed : Completed vl w (calculationsOf es)
   pub world : v ≡ afterAll vl w (calculationsOf es)
   pub worlds : (k : ℕ) → worldAt w es k ≡ afterAll vl w (take k (calculationsOf es))
+  pub moved : (i : ℕ) → i < 32 → (k : ℕ) → movedOf (take k es) i ≡ movedOver vl w (take k (calculationsOf es)) i
 
 module _ (allows : (vl : ℕ) (c : Calculation) (w : World) → (refusalOf vl c w ≡ Nothing) ↔ Calculates vl c w) (vl : ℕ) (l : 8 ≤ vl) where
   -- each goes on where the one before it ended
@@ -93,19 +94,23 @@ module _ (allows : (vl : ℕ) (c : Calculation) (w : World) → (refusalOf vl c 
 
   -- and the reverse
   pub followed : (w : World) (es : List Entry) (v : World) → AllNamed (calculationsOf es) → AllGood vl (w .machine) → Follow vl w es v → Followed vl w es v
-  unfolding Follow worldAt afterAll Completed AllNamed
-  followed w [] v nm g f = record { completed = tt; world = sym f; worlds = none }
+  unfolding Follow worldAt afterAll movedOf movedOver Completed AllNamed
+  followed w [] v nm g f = record { completed = tt; world = sym f; worlds = none; moved = nothing }
     where
       none : (k : ℕ) → worldAt w [] k ≡ afterAll vl w (take k [])
       none zero = refl
       none (suc k) = refl
+
+      nothing : (i : ℕ) → i < 32 → (k : ℕ) → movedOf (take k []) i ≡ movedOver vl w (take k []) i
+      nothing i b zero = refl
+      nothing i b (suc k) = refl
   followed w (e ∷ es) v nm g f = on (followed (effect vl (e .calculation .calculation) w) es v (nm .1))
     where
       c : Calculation
       c = e .calculation .calculation
 
       on : (AllGood vl (effect vl c w .machine) → Follow vl (effect vl c w) es v → Followed vl (effect vl c w) es v) → Followed vl w (e ∷ es) v
-      on ih = record { completed = (k, q .completed); world = q .world; worlds = worlds }
+      on ih = record { completed = (k, q .completed); world = q .world; worlds = worlds; moved = moved }
         where
           k : refusalOf vl c w ≡ Nothing
           k = allows vl c w .1 (f .0 .calculates)
@@ -119,3 +124,7 @@ module _ (allows : (vl : ℕ) (c : Calculation) (w : World) → (refusalOf vl c 
           worlds : (k : ℕ) → worldAt w (e ∷ es) k ≡ afterAll vl w (take k (e .calculation ∷ calculationsOf es))
           worlds zero = refl
           worlds (suc k) = ap (λ x. worldAt x es k) d ∙ q .worlds k
+
+          moved : (i : ℕ) → i < 32 → (k : ℕ) → movedOf (take k (e ∷ es)) i ≡ movedOver vl w (take k (e .calculation ∷ calculationsOf es)) i
+          moved i b zero = refl
+          moved i b (suc k) = ap₂ _++_ (did-taken allows vl c w g (nm .0) l (e .after) (e .taken) (f .0) i b) (q .moved i b k)

@@ -1,8 +1,9 @@
 -- The history of a run: execute has one, and one answer at most has one.
 --
---   turned-ran            a run of its calculations in turn has a history
---   ran-turned            a run that has a history is one of its calculations in turn
---   execute-ran, ran-one  execute has one; two answers that have one are the same
+--   turned-ran                a run of its calculations in turn has a history
+--   ran-named, ran-followed   one that has a history: its calculations name registers; its worlds and what it moved are the engine's
+--   ran-turned                it is a run of its calculations in turn
+--   execute-ran, ran-one      execute has a history; two answers that have one are the same
 use Prim.Native.Nat.{ℕ, _/_, _%_, _≤_, _<_}
 use mathlib.Core.Path.{_≡_, sym, _∙_, ap, subst}
 use mathlib.Core.Logic.{_↔_}
@@ -16,6 +17,7 @@ use Rattle.engine.specs.Calculate.{World, refusalOf}
 use Rattle.engine.specs.Run.{Progress, begun, execute}
 use Rattle.engine.specs.Allowed.{Calculates}
 use Rattle.engine.specs.GoodLaws.{First, first-because, because-first}
+use Rattle.engine.specs.HistoryLaws.{AllNamed}
 use Rattle.engine.specs.EndLaws.{Running}
 use Rattle.engine.specs.Histories.{Entry, Follow, noPlaced, inTurn, checksIn, Ran}
 use Rattle.engine.specs.TurnLaws.{Turned, turned-one}
@@ -61,11 +63,24 @@ module _ (allows : (vl : ℕ) (c : Calculation) (w : World) → (refusalOf vl c 
       n : length es ≡ length cs
       n = entries-length vl w cs
 
-  -- a run that has a history is one of its calculations in turn
+  -- the calculations of a run that has a history are those of the body in turn
+  ran-turns : (r : Progress) (h : Ran vl loop body w r) (k : ℕ) → k < length (calculationsOf (h .entries))
+      → getD (calculationsOf (h .entries)) k noPlaced ≡ inTurn body k
+  ran-turns r h k p = h .turns k (omega (arith, length-map (h .entries) (λ (e : Entry). e .calculation)))
+
+  -- they name registers
+  pub ran-named : (r : Progress) (h : Ran vl loop body w r) → AllNamed (calculationsOf (h .entries))
+  ran-named r h = named-turns body (calculationsOf (h .entries)) some (u .named) (ran-turns r h)
+
+  -- none of them is refused, and its worlds and what it moved are theirs
+  pub ran-followed : (r : Progress) (h : Ran vl loop body w r) → Followed vl w (h .entries) (r .world)
+  ran-followed r h = followed allows vl (u .lanes) w (h .entries) (r .world) (ran-named r h) (u .good) (h .follow)
+
+  -- so it is one of its calculations in turn
   pub ran-turned : (r : Progress) → Ran vl loop body w r → Turned vl loop body w r
   ran-turned r h = record {
     calculations = cs;
-    turns = turns;
+    turns = ran-turns r h;
     completed = f .completed;
     world = f .world;
     count = h .calculations ∙ sym n;
@@ -90,11 +105,8 @@ module _ (allows : (vl : ℕ) (c : Calculation) (w : World) → (refusalOf vl c 
       n : length cs ≡ length es
       n = length-map es (λ (e : Entry). e .calculation)
 
-      turns : (k : ℕ) → k < length cs → getD cs k noPlaced ≡ inTurn body k
-      turns k p = h .turns k (omega (arith, n))
-
       f : Followed vl w es (r .world)
-      f = followed allows vl (u .lanes) w es (r .world) (named-turns body cs some (u .named) turns) (u .good) (h .follow)
+      f = ran-followed r h
 
   -- execute has a history
   pub execute-ran : Ran vl loop body w (execute vl loop body w)
