@@ -41,6 +41,8 @@ pub record PassEnds (s : Shape) (n : ℕ) : Type 0 where
 pub record Chunk (s : Shape) (lanes n : ℕ) (vs : List (List ℕ)) : Type 0 where
   -- the next elements
   pub front : vs ≡ take (length vs) (drop n (elements s))
+  -- one at least: at the first element of a pass the chunk is not the empty end of the pass before it
+  pub some : 1 ≤ length vs
   pub most : length vs ≤ lanes
   -- if coupled they are of one pass of dimension c (counted from 1): no index above it differs
   pub one-pass : (c : ℕ) → s .coupling ≡ Coupled c → (k : ℕ) → suc k < length vs → drop c (getD vs k []) ≡ drop c (getD vs (suc k) [])

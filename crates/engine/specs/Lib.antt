@@ -51,6 +51,13 @@ pub mod SheetLaws
 pub mod Histories
 pub mod InStep
 pub mod InStepLaws
+pub mod ChunkExact
+pub mod AfterLaws
+pub mod DidLaws
+pub mod TurnLaws
+pub mod RoundLaws
+pub mod EntryLaws
+pub mod RanLaws
 pub mod Given
 pub mod Promise1
 pub mod GivenLaws

@@ -6,6 +6,7 @@
 --   pattern-stays, kind-stays, width-stays, stream-stays   a stream keeps its pattern, kind and width, and stays one
 --   moved-counts                       the elements moved are counted
 --   load-moves, store-moves            a load named as a source moves its next chunk; the store that is the destination the front of it
+--   shut-idle, unnamed-idle            one that is not open, or not named, moves nothing
 --   read-some                          a load that is read moves at least one element
 --   not-destination, unnamed           an open load is no destination; where it is no source either, it stays
 use Prim.Native.Nat.{ℕ, _+_, _≤_, _<_}
@@ -83,7 +84,8 @@ module _ (vl : ℕ) (c : Calculation) (w : World) (i : ℕ) where
       (and-left (openStore (reg (w .machine) i)) (eqb i (c .destination)) (load-no-store (reg (w .machine) i) e))
       (and-both (openLoad (reg (w .machine) i)) (eqb i (c .first) || eqb i (c .second)) e s)
 
-  shut-idle : isOpen (reg (w .machine) i .state) ≡ false → movedIn vl c w i ≡ []
+  -- a register that is not open moves nothing
+  pub shut-idle : isOpen (reg (w .machine) i .state) ≡ false → movedIn vl c w i ≡ []
   unfolding movedIn
   shut-idle o =
       let r : Register = reg (w .machine) i in
@@ -91,7 +93,8 @@ module _ (vl : ℕ) (c : Calculation) (w : World) (i : ℕ) where
       (and-left (openStore r) (eqb i (c .destination)) (and-left (isOpen (r .state)) (not (isLoad (r .kind))) o))
       (and-left (openLoad r) (eqb i (c .first) || eqb i (c .second)) (and-left (isOpen (r .state)) (isLoad (r .kind)) o))
 
-  unnamed-idle : eqb i (c .destination) ≡ false → (eqb i (c .first) || eqb i (c .second)) ≡ false → movedIn vl c w i ≡ []
+  -- nor does one that is not named
+  pub unnamed-idle : eqb i (c .destination) ≡ false → (eqb i (c .first) || eqb i (c .second)) ≡ false → movedIn vl c w i ≡ []
   unfolding movedIn
   unnamed-idle d s =
       no-way _ _ _ _ _

@@ -1,0 +1,156 @@
+-- The engine's chunk is a chunk, and the only one.
+--
+--   chunk-at             the elements of a chunk by their places
+--   chunk-same           a stream has one chunk at a place
+--   left-by              some elements further, as many less are left of the group
+--   chunk-is, chunk-one  the engine's chunk is that one
+use Prim.Native.Nat.{ℕ, zero, suc, _+_, _-_, _≤_, _<_, min}
+use mathlib.Core.Path.{_≡_, refl, sym, _∙_, ap, subst}
+use mathlib.Core.List.{List, []}
+use mathlib.Core.Logic.{_⊎_, ⊎-elim, ⊎-map, _↔_}
+use native.Mathlib.Omega.{arith}
+use native.Mathlib.Nat.{eq-or-lt-of-le}
+use native.Mathlib.Decide.{decLt}
+use lib.ListN.{length, getD, take, drop, length-take, length-drop}
+use lib.Seq.{getD-take, getD-drop}
+use Rattle.codec.specs.declared.header.Coupling.{Coupling}
+use Rattle.codec.specs.declared.header.Coupling.the-variants.{Uncoupled, Coupled}
+use Rattle.engine.specs.Loops.{sizeAt, elements}
+use Rattle.engine.specs.Chunks.{groups, groupsOf, chunk}
+use Rattle.engine.specs.FlagLaws.{differ-drop, loops-even}
+use Rattle.engine.specs.GroupLaws.{leftInGroup, left-most, left-step}
+use Rattle.engine.specs.ChunkLaws.{Covered, covered, groups-join, chunk-length, chunk-lanes, chunk-some, chunk-elements}
+use Rattle.engine.specs.PassLaws.{same-group, group-uncoupled}
+use Rattle.engine.specs.Good.{Accepted}
+use Rattle.engine.specs.Histories.{PassEnds, Chunk}
+use Rattle.engine.specs.declared.stream.Shape.{Shape}
+
+-- ---- one at most
+
+-- the elements of a chunk by their places
+pub chunk-at : (s : Shape) (n : ℕ) (vs : List (List ℕ)) → vs ≡ take (length vs) (drop n (elements s)) → (k : ℕ) → k < length vs
+    → getD vs k [] ≡ getD (elements s) (n + k) []
+chunk-at s n vs e k h = ap (λ l. getD l k []) e ∙ getD-take (length vs) (drop n (elements s)) k [] h ∙ getD-drop n (elements s) k []
+
+module _ (s : Shape) (lanes n : ℕ) where
+  within : (vs : List (List ℕ)) → Chunk s lanes n vs → length vs ≤ length (elements s) - n
+  within vs c = omega (arith, ap length (c .front) ∙ length-take (length vs) (drop n (elements s)), length-drop n (elements s))
+
+  -- no chunk is shorter than another: it would end inside the stream and inside a pass
+  shorter : (vs ws : List (List ℕ)) → Chunk s lanes n vs → Chunk s lanes n ws → length vs < length ws → ⊥
+  shorter vs ws c d h =
+      ⊎-elim (λ e. omega (arith, within ws d, d .most)) (λ p. p .other (sym (before p) ∙ inside p ∙ at p)) (c .full (omega (arith, d .most)))
+    where
+      k : ℕ
+      k = length vs - 1
+
+      before : (p : PassEnds s (n + length vs)) → drop (p .dimension) (getD ws k []) ≡ drop (p .dimension) (getD (elements s) (n + length vs - 1) [])
+      before p =
+          let e : n + k ≡ n + length vs - 1 = omega (arith, c .some) in
+          ap (drop (p .dimension)) (chunk-at s n ws (d .front) k (omega arith) ∙ ap (λ j. getD (elements s) j []) e)
+
+      at : (p : PassEnds s (n + length vs)) → drop (p .dimension) (getD ws (suc k) []) ≡ drop (p .dimension) (getD (elements s) (n + length vs) [])
+      at p =
+          let e : n + suc k ≡ n + length vs = omega (arith, c .some) in
+          ap (drop (p .dimension)) (chunk-at s n ws (d .front) (suc k) (omega (arith, c .some)) ∙ ap (λ j. getD (elements s) j []) e)
+
+      inside : (p : PassEnds s (n + length vs)) → drop (p .dimension) (getD ws k []) ≡ drop (p .dimension) (getD ws (suc k) [])
+      inside p = d .one-pass (p .dimension) (p .coupled) k (omega (arith, c .some))
+
+  -- a stream has one chunk at a place
+  pub chunk-same : (vs ws : List (List ℕ)) → Chunk s lanes n vs → Chunk s lanes n ws → vs ≡ ws
+  chunk-same vs ws c d = go (decLt (length vs) (length ws)) (decLt (length ws) (length vs))
+    where
+      go : Dec (length vs < length ws) → Dec (length ws < length vs) → vs ≡ ws
+      go (yes h) q = absurd (shorter vs ws c d h)
+      go (no p) (yes h) = absurd (shorter ws vs d c h)
+      go (no p) (no q) =
+          let e : length vs ≡ length ws = omega arith in
+          c .front ∙ ap (λ k. take k (drop n (elements s))) e ∙ sym (d .front)
+
+-- ---- the engine's
+
+-- some elements further, as many less are left of the group
+pub left-by : {A : Type 0} (gs : List (List A)) (n k : ℕ) → k < leftInGroup gs n → leftInGroup gs (n + k) ≡ leftInGroup gs n - k
+left-by gs n zero h = let e : n + 0 ≡ n = omega arith in ap (leftInGroup gs) e ∙ omega arith
+left-by gs n (suc k) h =
+    let r = left-by gs n k (omega arith) in
+    let e : n + suc k ≡ suc (n + k) = omega arith in
+    ap (leftInGroup gs) e ∙ omega (arith, left-step gs (n + k) (omega arith))
+
+module _ (s : Shape) (a : Accepted s) where
+  cover : Covered (s .dims) (s .coupling)
+  cover = covered s (s .coupling) (a .covered)
+
+  -- a group ends where the stream does, or before
+  left-in : (n : ℕ) → n ≤ length (elements s) → n + leftInGroup (groupsOf s) n ≤ length (elements s)
+  unfolding elements
+  left-in n h = omega (arith, left-most (groupsOf s) n, ap length (groups-join (sizeAt s) (s .dims) (s .coupling) cover))
+
+  -- coupled to dimension c: the next element differs in no index above it exactly if it is of the same group
+  same-pass : (c : ℕ) → s .coupling ≡ Coupled c → (n : ℕ) → suc n < length (elements s)
+      → (drop c (getD (elements s) n []) ≡ drop c (getD (elements s) (suc n) [])) ↔ (1 < leftInGroup (groupsOf s) n)
+  unfolding elements
+  same-pass c e n h =
+      let d = differ-drop c _ _ (loops-even (sizeAt s) 0 (s .dims) [] n (suc n) (omega arith) h) in
+      let g = same-group (sizeAt s) (s .dims) c (subst (Covered (s .dims)) e cover) n h in
+      subst
+      (λ k. (drop c (getD (elements s) n []) ≡ drop c (getD (elements s) (suc n) [])) ↔ (1 < leftInGroup (groups (sizeAt s) (s .dims) k) n)) (sym e)
+      (λ q. g .0 (d .1 q), λ q. d .0 (g .1 q))
+
+  -- where a group ends before the stream does, a pass ends
+  pass-ends : (n : ℕ) → 1 ≤ n → n < length (elements s) → leftInGroup (groupsOf s) (n - 1) ≡ 1 → PassEnds s n
+  unfolding elements
+  pass-ends n p h e = go (s .coupling) refl
+    where
+      go : (k : Coupling) → s .coupling ≡ k → PassEnds s n
+      go Uncoupled f =
+          absurd (omega (arith, ap (λ k. leftInGroup (groups (sizeAt s) (s .dims) k) (n - 1)) f, group-uncoupled (sizeAt s) (s .dims) (n - 1)))
+      go (Coupled c) f =
+          let j : n ≡ suc (n - 1) = omega arith in
+          record {
+            dimension = c;
+            coupled = f;
+            other = λ q. omega (arith, same-pass c f (n - 1) (omega arith) .0 (q ∙ ap (λ i. drop c (getD (elements s) i [])) j));
+          }
+
+  module _ (lanes n : ℕ) (p : 1 ≤ lanes) (h : n < length (elements s)) where
+    size : length (chunk s lanes n) ≡ min lanes (leftInGroup (groupsOf s) n)
+    size = chunk-length (groupsOf s) lanes n
+
+    some : 1 ≤ length (chunk s lanes n)
+    unfolding elements
+    some = chunk-some (groupsOf s) lanes n p (omega (arith, ap length (groups-join (sizeAt s) (s .dims) (s .coupling) cover)))
+
+    one-pass : (c : ℕ) → s .coupling ≡ Coupled c → (k : ℕ) → suc k < length (chunk s lanes n)
+        → drop c (getD (chunk s lanes n) k []) ≡ drop c (getD (chunk s lanes n) (suc k) [])
+    one-pass c e k q =
+        let f = chunk-at s n (chunk s lanes n) (chunk-elements s lanes n cover) in
+        let j : n + suc k ≡ suc (n + k) = omega arith in
+        ap (drop c) (f k (omega arith))
+        ∙ same-pass c e (n + k) (omega (arith, size, left-in n (omega arith))) .1 (omega (arith, size, left-by (groupsOf s) n k (omega (arith, size))))
+        ∙ ap (drop c) (sym (f (suc k) q ∙ ap (λ i. getD (elements s) i []) j))
+
+    full : length (chunk s lanes n) < lanes
+        → (n + length (chunk s lanes n) ≡ length (elements s)) ⊎ PassEnds s (n + length (chunk s lanes n))
+    full q =
+        let e : length (chunk s lanes n) ≡ leftInGroup (groupsOf s) n = omega (arith, size) in
+        let k : ℕ = length (chunk s lanes n) - 1 in
+        let j : n + length (chunk s lanes n) - 1 ≡ n + k = omega (arith, some) in
+        let l : leftInGroup (groupsOf s) (n + k) ≡ 1 = omega (arith, some, left-by (groupsOf s) n k (omega (arith, some))) in
+        ⊎-map (λ r. r) (λ r. pass-ends _ (omega (arith, some)) r (ap (leftInGroup (groupsOf s)) j ∙ l))
+        (eq-or-lt-of-le (subst (λ i. n + i ≤ length (elements s)) (sym e) (left-in n (omega arith))))
+
+    -- the engine's chunk is one
+    pub chunk-is : Chunk s lanes n (chunk s lanes n)
+    chunk-is = record {
+      front = chunk-elements s lanes n cover;
+      some = some;
+      most = chunk-lanes (groupsOf s) lanes n;
+      one-pass = one-pass;
+      full = full;
+    }
+
+    -- and the only one
+    pub chunk-one : (vs : List (List ℕ)) → Chunk s lanes n vs → vs ≡ chunk s lanes n
+    chunk-one vs c = chunk-same s lanes n vs (chunk s lanes n) c chunk-is

@@ -1,0 +1,180 @@
+-- What the engine does for a calculation that is not refused is a completed calculation, and nothing else is.
+--
+--   did-effect          the effect is a completed calculation
+--   did-one, did-taken  a completed calculation is the effect, and moves what the effect moves
+use Prim.Native.Nat.{ℕ, _*_, _/_, _≤_, _<_}
+use mathlib.Core.Path.{_≡_, refl, sym, _∙_, ap, ap₂, subst}
+use mathlib.Core.Logic.{_⊎_, inl, inr, ⊎-elim, _↔_}
+use mathlib.Core.List.{List, map}
+use native.Mathlib.Omega.{arith}
+use native.Mathlib.Decide.{ℕ-discrete}
+use lib.ListN.{length}
+use lib.Seq.{ext-getD}
+use Rattle.codec.specs.declared.operation.Calculation.{Calculation}
+use Rattle.engine.specs.Memory.{fetch}
+use Rattle.engine.specs.Lanes.{lane, lanewise}
+use Rattle.engine.specs.Registers.{isOpen, shapeOf, nextChunk, noRegister, reg}
+use Rattle.engine.specs.Calculate.{World, given, results, refusalOf, effect}
+use Rattle.engine.specs.Allowed.{Source, Sink, Calculates}
+use Rattle.engine.specs.Good.{AllGood}
+use Rattle.engine.specs.CalculationLaws.{Named}
+use Rattle.engine.specs.EffectLaws.{effect-length, room}
+use Rattle.engine.specs.StreamLaws.{movedIn, load-moves, shut-idle}
+use Rattle.engine.specs.Histories.{Chunk, Gives, Becomes, Stores, Did}
+use Rattle.engine.specs.AfterLaws.{next-is, next-one, given-plain, given-open, open-load, is-source, loaded, went-plain, went-store, went-load, went-source, went-other, memory-kept, memory-stored}
+use Rattle.engine.specs.declared.check.Why.the-variants.{Nothing}
+use Rattle.engine.specs.declared.register.State.the-variants.{Open}
+use Rattle.engine.specs.declared.register.Register.{Register}
+
+module _ (allows : (vl : ℕ) (c : Calculation) (w : World) → (refusalOf vl c w ≡ Nothing) ↔ Calculates vl c w)
+    (vl : ℕ) (c : Calculation) (w : World) (g : AllGood vl (w .machine)) (nm : Named c) (l : 8 ≤ vl) where
+  -- a register before it
+  abbrev at : ℕ → Register
+  at i = reg (w .machine) i
+
+  -- it is one of the 32
+  inside : (i : ℕ) → i < 32 → i < length (w .machine .registers)
+  inside i h = omega (arith, g .all)
+
+  module _ (e : refusalOf vl c w ≡ Nothing) where
+    -- the destination is plain or an open store
+    sink : (i : ℕ) → i ≡ c .destination → Sink (at i)
+    sink i p = subst (λ j. Sink (at j)) (sym p) (allows vl c w .0 e .destination)
+
+    -- a source is plain or an open load
+    source : (i : ℕ) → (i ≡ c .first) ⊎ (i ≡ c .second) → Source (at i)
+    source i s =
+        ⊎-elim (λ p. subst (λ j. Source (at j)) (sym p) (allows vl c w .0 e .first)) (λ p. subst (λ j. Source (at j)) (sym p) (allows vl c w .0 e .second)) s
+
+    -- a store has room for the result
+    roomy : (i : ℕ) → i ≡ c .destination → at i .state ≡ Open → length (results vl c w) ≤ length (nextChunk vl (at i))
+    roomy i p =
+        subst (λ j. at j .state ≡ Open → length (results vl c w) ≤ length (nextChunk vl (at j))) (sym p) (λ o. room vl c w e (ap isOpen o))
+
+    -- a register after the effect
+    becomes : (i : ℕ) → i < 32 → Becomes vl c w (results vl c w) i (movedIn vl c w i) (reg (effect vl c w .machine) i)
+    becomes i h = go (ℕ-discrete i (c .destination)) (ℕ-discrete i (c .first)) (ℕ-discrete i (c .second))
+      where
+        b : i < length (w .machine .registers)
+        b = inside i h
+
+        to : i ≡ c .destination → Sink (at i) → Becomes vl c w (results vl c w) i (movedIn vl c w i) (reg (effect vl c w .machine) i)
+        to p (Sink.plain s) = let t = went-plain vl c w i b p s in Becomes.plain p s (t .0) (t .1)
+        to p (Sink.store o k) =
+            let t = went-store vl c w i b p (sink i p) o (g .good i h) (roomy i p o) in
+            Becomes.store p o (t .0) (t .1)
+
+        from : ¬ (i ≡ c .destination) → (i ≡ c .first) ⊎ (i ≡ c .second) → Source (at i)
+            → Becomes vl c w (results vl c w) i (movedIn vl c w i) (reg (effect vl c w .machine) i)
+        from n f (Source.plain s) = let t = went-source vl c w i b n f s in Becomes.source n f s (t .0) (t .1)
+        from n f (Source.load o k) =
+            let t = went-load vl c w i b n f (source i f) o in
+            Becomes.load n f o (subst (Chunk (shapeOf (at i)) (vl / at i .width) (at i .moved)) (sym (t .0)) (next-is vl (at i) l (g .good i h) o))
+            (t .1 ∙ ap (loaded (w .memory) (at i)) (sym (t .0)))
+
+        go : Dec (i ≡ c .destination) → Dec (i ≡ c .first) → Dec (i ≡ c .second)
+            → Becomes vl c w (results vl c w) i (movedIn vl c w i) (reg (effect vl c w .machine) i)
+        go (yes p) f s = to p (sink i p)
+        go (no n) (yes f) s = from n (inl f) (source i (inl f))
+        go (no n) (no f) (yes s) = from n (inr s) (source i (inr s))
+        go (no n) (no f) (no s) = let t = went-other vl c w i b n f s in Becomes.other n f s (t .0) (t .1)
+
+    -- and a register that is so is that
+    becomes-one : (i : ℕ) → i < 32 → (vs : List (List ℕ)) (q : Register) → Becomes vl c w (results vl c w) i vs q
+        → (vs ≡ movedIn vl c w i) × (q ≡ reg (effect vl c w .machine) i)
+    becomes-one i h vs q (Becomes.plain p s x y) = let t = went-plain vl c w i (inside i h) p s in (x ∙ sym (t .0), y ∙ sym (t .1))
+    becomes-one i h vs q (Becomes.store p o x y) =
+        let t = went-store vl c w i (inside i h) p (sink i p) o (g .good i h) (roomy i p o) in
+        (x ∙ sym (t .0), y ∙ sym (t .1))
+    becomes-one i h vs q (Becomes.load n f o x y) =
+        let t = went-load vl c w i (inside i h) n f (source i f) o in
+        let m : vs ≡ nextChunk vl (at i) = next-one vl (at i) l (g .good i h) o vs x in
+        (m ∙ sym (t .0), y ∙ ap (loaded (w .memory) (at i)) m ∙ sym (t .1))
+    becomes-one i h vs q (Becomes.source n f s x y) = let t = went-source vl c w i (inside i h) n f s in (x ∙ sym (t .0), y ∙ sym (t .1))
+    becomes-one i h vs q (Becomes.other n f s x y) = let t = went-other vl c w i (inside i h) n f s in (x ∙ sym (t .0), y ∙ sym (t .1))
+
+    -- the lanes of a source
+    gives : (i : ℕ) → i < 32 → (i ≡ c .first) ⊎ (i ≡ c .second) → Gives vl (w .memory) (at i) (movedIn vl c w i) (given vl (w .memory) (at i))
+    gives i h f = go (source i f)
+      where
+        go : Source (at i) → Gives vl (w .memory) (at i) (movedIn vl c w i) (given vl (w .memory) (at i))
+        go (Source.plain s) = Gives.plain s (shut-idle vl c w i (ap isOpen s)) (given-plain vl (w .memory) (at i) s)
+        go (Source.load o k) =
+            let m : movedIn vl c w i ≡ nextChunk vl (at i) = load-moves vl c w i (open-load (at i) (source i f) o) (is-source c i f) in
+            Gives.load o (subst (Chunk (shapeOf (at i)) (vl / at i .width) (at i .moved)) (sym m) (next-is vl (at i) l (g .good i h) o))
+            (given-open vl (w .memory) (at i) o ∙ ap (map (fetch (at i .pattern) (at i .width) (w .memory))) (sym m))
+
+    -- and lanes that are so are those
+    gives-one : (i : ℕ) → i < 32 → (vs : List (List ℕ)) (xs : List ℕ) → Gives vl (w .memory) (at i) vs xs → xs ≡ given vl (w .memory) (at i)
+    gives-one i h vs xs (Gives.plain s x y) = y ∙ sym (given-plain vl (w .memory) (at i) s)
+    gives-one i h vs xs (Gives.load o x y) =
+        y
+        ∙ ap (map (fetch (at i .pattern) (at i .width) (w .memory))) (next-one vl (at i) l (g .good i h) o vs x)
+        ∙ sym (given-open vl (w .memory) (at i) o)
+
+    -- memory after the effect
+    stores : Stores c w (results vl c w) (movedIn vl c w (c .destination)) (effect vl c w .memory)
+    stores = go (sink (c .destination) refl)
+      where
+        go : Sink (at (c .destination)) → Stores c w (results vl c w) (movedIn vl c w (c .destination)) (effect vl c w .memory)
+        go (Sink.plain s) = Stores.nothing s (memory-kept vl c w s)
+        go (Sink.store o k) = Stores.lanes o (memory-stored vl c w (sink (c .destination) refl) o)
+
+    -- and memory that is so is that
+    stores-one : (memory : List ℕ) → Stores c w (results vl c w) (movedIn vl c w (c .destination)) memory → memory ≡ effect vl c w .memory
+    stores-one memory (Stores.nothing s x) = x ∙ sym (memory-kept vl c w s)
+    stores-one memory (Stores.lanes o x) = x ∙ sym (memory-stored vl c w (sink (c .destination) refl) o)
+
+    -- the effect is a completed calculation
+    pub did-effect : Did vl c w (effect vl c w) (movedIn vl c w)
+    unfolding results
+    did-effect = record {
+      calculates = allows vl c w .0 e;
+      first = given vl (w .memory) (at (c .first));
+      second = given vl (w .memory) (at (c .second));
+      gives-first = gives (c .first) (nm .first) (inl refl);
+      gives-second = gives (c .second) (nm .second) (inr refl);
+      out = results vl c w;
+      calculated = refl;
+      registers = effect-length vl c w ∙ g .all;
+      becomes = becomes;
+      stores = stores;
+    }
+
+  module _ (v : World) (taken : ℕ → List (List ℕ)) (d : Did vl c w v taken) where
+    -- a completed calculation is not refused
+    not-refused : refusalOf vl c w ≡ Nothing
+    not-refused = allows vl c w .1 (d .calculates)
+
+    -- its lanes are the engine's
+    out-one : d .out ≡ results vl c w
+    unfolding results
+    out-one =
+        d .calculated
+        ∙ ap₂ (lanewise (lane (c .action) (8 * at (c .first) .width))) (gives-one not-refused (c .first) (nm .first) _ _ (d .gives-first))
+        (gives-one not-refused (c .second) (nm .second) _ _ (d .gives-second))
+
+    -- so is each register, and what it moves
+    each : (i : ℕ) → i < 32 → (taken i ≡ movedIn vl c w i) × (reg (v .machine) i ≡ reg (effect vl c w .machine) i)
+    each i h =
+        becomes-one not-refused i h (taken i) (reg (v .machine) i)
+        (subst (λ xs. Becomes vl c w xs i (taken i) (reg (v .machine) i)) out-one (d .becomes i h))
+
+    -- a completed calculation moves what the effect moves
+    pub did-taken : (i : ℕ) → i < 32 → taken i ≡ movedIn vl c w i
+    did-taken i h = each i h .0
+
+    same-registers : v .machine .registers ≡ effect vl c w .machine .registers
+    same-registers =
+        ext-getD noRegister (v .machine .registers) (effect vl c w .machine .registers) (d .registers ∙ sym (effect-length vl c w ∙ g .all))
+        (λ i h. each i (omega (arith, d .registers)) .1)
+
+    same-memory : v .memory ≡ effect vl c w .memory
+    same-memory =
+        stores-one not-refused (v .memory)
+        (subst (λ vs. Stores c w (results vl c w) vs (v .memory)) (did-taken (c .destination) (nm .destination))
+        (subst (λ xs. Stores c w xs (taken (c .destination)) (v .memory)) out-one (d .stores)))
+
+    -- and is the effect
+    pub did-one : v ≡ effect vl c w
+    did-one = ap₂ (λ x y. record { machine = record { registers = x }; memory = y }) same-registers same-memory
