@@ -17,3 +17,4 @@ mod BodySteps
 mod SheetSteps
 mod PassSteps
 mod WholeSteps
+pub mod Unrefused

@@ -52,4 +52,5 @@ pub mod Histories
 pub mod Given
 pub mod Promise1
 pub mod Promise2
+pub mod AllowedLaws
 pub mod Table
