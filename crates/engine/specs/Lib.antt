@@ -53,4 +53,5 @@ pub mod Given
 pub mod Promise1
 pub mod Promise2
 pub mod AllowedLaws
+pub mod ReadingLaws
 pub mod Table
