@@ -18,3 +18,4 @@ mod SheetSteps
 mod PassSteps
 mod WholeSteps
 pub mod Unrefused
+pub mod Promise1

@@ -1,6 +1,6 @@
 -- What is not refused, in plain terms: the engine's tests against the conditions of Allowed.
 --
---   leb-plain, eqb-plain, and-plain, test-plain, nonneg-plain   tests as the facts that they test
+--   leb-plain, eqb-plain, and-plain, fails, test-plain, nonneg-plain   tests as the facts that they test
 --   is-open, is-configuring, is-load         a state or a kind, by its test
 --   fits-allowed                             the lengths
 --   opens-clear, extends-clear, modifies-clear, ends-clear, accepts-clear   each operation that configures, and any
@@ -64,6 +64,11 @@ eqb-plain a b = (eqb-true a b, eq-eqb a b)
 -- both
 pub and-plain : {A B : Type 0} (a b : Bool) → (a ≡ true) ↔ A → (b ≡ true) ↔ B → ((a && b) ≡ true) ↔ (A × B)
 and-plain a b f g = (λ e. (f .0 (both a b e .0), g .0 (both a b e .1)), λ h. and-both a b (f .1 (h .0)) (g .1 (h .1)))
+
+-- a test that fails where its fact does not hold
+pub fails : {P : Type 0} (b : Bool) → (b ≡ true) ↔ P → ¬ P → b ≡ false
+fails true t n = absurd (n (t .0 refl))
+fails false t n = refl
 
 -- a test that computes to a type
 pub test-plain : (b : Bool) → (b ≡ true) ↔ T b

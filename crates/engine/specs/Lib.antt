@@ -54,4 +54,5 @@ pub mod Promise1
 pub mod Promise2
 pub mod AllowedLaws
 pub mod ReadingLaws
+pub mod TurnLaws
 pub mod Table

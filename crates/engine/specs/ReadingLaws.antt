@@ -44,7 +44,7 @@ use Rattle.codec.specs.declared.operation.Body.the-variants as body
 use Rattle.codec.specs.declared.refusal.Refusal.{Refusal}
 use Rattle.codec.specs.declared.refusal.Refusal.the-variants.{BadNumber, OutOfRange, FixedBits, NotCarried}
 use Rattle.engine.specs.CalculationLaws.{never, and-right}
-use Rattle.engine.specs.AllowedLaws.{leb-plain, eqb-plain, and-plain, nonneg-plain}
+use Rattle.engine.specs.AllowedLaws.{fails, leb-plain, eqb-plain, and-plain, nonneg-plain}
 use Rattle.engine.specs.Promise1.{NumberAt, NoNumberAt, Range, Holds, fieldsOf, calculationFields, Fault, AtFault, FixedRight, NoneCarried, WordFault, Unread, UnreadCalculation, CouplingInRange, InRange, Written, Calculated}
 
 -- ---- what stands in a sheet
@@ -87,11 +87,6 @@ holds (Range.upTo most) before n = leb n most
 holds (Range.between least most) before n = leb least n && leb n most
 holds Range.reach before n = isReach (signedOf n)
 holds Range.source before n = isSecond (getD before 2 0) (getD before 0 0) n
-
--- a test that fails where its fact does not hold
-fails : {P : Type 0} (b : Bool) → (b ≡ true) ↔ P → ¬ P → b ≡ false
-fails true t n = absurd (n (t .0 refl))
-fails false t n = refl
 
 -- a copy's second source
 copy-plain : (code first n : ℕ) → ((not (eqb code 0) || eqb n first) ≡ true) ↔ (code ≡ 0 → n ≡ first)
