@@ -39,7 +39,7 @@ use Rattle.engine.specs.AllowedLaws.{fails, fits-allowed, accepts-clear,
 use Rattle.engine.specs.Histories.{Ran}
 use Rattle.engine.specs.Promise1.{Unread, Configures, Written, after, Turns, BodyAt, LoopsOn, RunAt, world, Before, Right, Encoded, Promise1}
 use Rattle.engine.specs.ReadingLaws.{read-written, unread-refused, refused-unread}
-use Rattle.engine.specs.TurnLaws.{written-on, decoded-refused, onward-written, turns-onward, turns-snoc, turns-on, body-on, body-whole, body-broken, Breaks, body-either, turns-cut, bytes-cut, turns-bytes, body-bytes, stands-all}
+use Rattle.engine.specs.StandLaws.{written-on, decoded-refused, onward-written, turns-onward, turns-snoc, turns-on, body-on, body-whole, body-broken, Breaks, body-either, turns-cut, bytes-cut, turns-bytes, body-bytes, stands-all}
 use Rattle.engine.specs.declared.check.Why.{Why}
 use Rattle.engine.specs.declared.check.Why.the-variants.{Nothing, Because}
 use Rattle.engine.specs.declared.register.Machine.{Machine}

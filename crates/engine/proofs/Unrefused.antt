@@ -4,7 +4,8 @@
 use Rattle.engine.specs.Configure.{whyNot, configured}
 use Rattle.engine.specs.Calculate.{refusalOf}
 use Rattle.engine.specs.GoodLaws.{first-because, because-first}
-use Rattle.engine.specs.AllowedLaws.{fits-allowed, accepts-clear, loops-on, calculates-clear}
+use Rattle.engine.specs.AllowedLaws.{fits-allowed, accepts-clear, loops-on}
+use Rattle.engine.specs.CalculatesLaws.{calculates-clear}
 use Rattle.engine.specs.Promise1.{Unrefused}
 
 -- what is refused, and nothing else

@@ -53,6 +53,8 @@ pub mod Given
 pub mod Promise1
 pub mod Promise2
 pub mod AllowedLaws
+pub mod CalculatesLaws
+pub mod FieldLaws
 pub mod ReadingLaws
-pub mod TurnLaws
+pub mod StandLaws
 pub mod Table
