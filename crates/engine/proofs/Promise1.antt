@@ -246,7 +246,7 @@ encoded : (vl : ℕ) (s memory : List ℕ) (r : Progress) → Right vl s memory 
 encoded vl s memory r (Right.lengths n e) v = not-done r _ _ _ v e
 encoded vl s memory r (Right.over f os m t e) v =
     let b = turns-bytes s 0 freshMachine os (length s) m (omega arith) t in
-    Encoded.over (b .0) os (stands-all s _ (b .1))
+    Encoded.over (b .0) os m t (stands-all s _ (b .1))
 encoded vl s memory r (Right.unread f os at m x t h u e) v = not-done r _ _ _ v e
 encoded vl s memory r (Right.refused f os at m o to x t w c e) v = not-done r _ _ _ v e
 encoded vl s memory r (Right.broken f os at m loop count from cs place x t w b h u e) v = not-done r _ _ _ v e
@@ -255,7 +255,7 @@ encoded vl s memory r (Right.no-loop f os at m loop cs t w n e) v = not-done r _
 encoded vl s memory r (Right.ran f os at m loop cs t w l h) v =
     let b = turns-bytes s 0 freshMachine os at m (omega arith) t in
     let k : Stands s at (operationBytes 0 (op.Run loop (length cs))) (w .from) = subst (λ l. Stands s at l (w .from)) (run-bytes (w .written .free) loop (length cs)) (w .written .stands) in
-    Encoded.with-run (b .0) os loop cs
+    Encoded.with-run (b .0) os at m loop cs t w
     (stands-all s _ (stands-join (b .1) (stands-join k (body-bytes s (w .from) cs (length s) (w .written .stands .within) (w .body)))))
 
 module _ (execute-ran : ExecuteRan) (ran-one : RanOne) where
