@@ -18,3 +18,5 @@ mod SheetSteps
 mod PassSteps
 mod WholeSteps
 pub mod Promise2
+pub mod Unrefused
+pub mod Promise1

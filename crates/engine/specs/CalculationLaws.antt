@@ -2,7 +2,7 @@
 --
 --   never, never-true, or-false, and-false, both, and-left, and-right, and-both   flags
 --   Named, named                               the registers that a calculation names are among the 32
---   Passed, passed, unrefused                  the checks that did not apply, by name
+--   Passed, passed, nothing, unrefused         the checks that did not apply, by name
 --   PassedIn, checked, not-refused             those of a calculation in a world: not refused exactly if it passes them
 use Prim.Native.Nat.{ℕ, _<_}
 use mathlib.Core.Path.{_≡_, refl, sym, ap}
@@ -130,7 +130,8 @@ passed vl len n m a b d e =
       destination-inside = k14 .0;
     }
 
-nothing : firstOf [] ≡ Nothing
+-- no check gives no refusal
+pub nothing : firstOf [] ≡ Nothing
 unfolding firstOf
 nothing = refl
 

@@ -65,4 +65,9 @@ pub mod MomentLaws
 pub mod MovingLaws
 pub mod Offered
 pub mod Promise2
+pub mod AllowedLaws
+pub mod CalculatesLaws
+pub mod FieldLaws
+pub mod ReadingLaws
+pub mod StandLaws
 pub mod Table

@@ -7,7 +7,7 @@
 --   InRange, Written              an operation as it stands in the sheet
 --   Turns                         operations done in turn
 --   Calculated, BodyAt            the calculations of a run as they stand in the sheet
---   LoopRegister                  what 16 looks at
+--   LoopsOn, RunAt                what 16 looks at; a run whose body is read whole
 --   Right                         the right answers
 --   Unrefused                     nothing else is refused
 --   Encoded                       a sheet that is, from its first byte to its last, what was read
@@ -253,10 +253,10 @@ unfoldable pub bodyBytes : List Placed → List ℕ
 bodyBytes [] = []
 bodyBytes (c ∷ cs) = calculationBytes (c .calculation) ++ bodyBytes cs
 
--- with no run, or with one at its end
+-- of the operations that were done, with no run or with one at its end
 pub data Encoded (s : List ℕ) : Type 0 where
-  over : (frees : List ℕ) (os : List Operation) → s ≡ encodings frees os → Encoded s
-  with-run : (frees : List ℕ) (os : List Operation) (loop : ℕ) (cs : List Placed)
+  over : (frees : List ℕ) (os : List Operation) (m : Machine) → Before s os (length s) m → s ≡ encodings frees os → Encoded s
+  with-run : (frees : List ℕ) (os : List Operation) (at : ℕ) (m : Machine) (loop : ℕ) (cs : List Placed) → Before s os at m → RunAt s at loop cs (length s)
       → s ≡ encodings frees os ++ (operationBytes 0 (op.Run loop (length cs)) ++ bodyBytes cs) → Encoded s
 
 -- ---- what is refused, and nothing else
