@@ -36,7 +36,9 @@ use Rattle.engine.specs.EndLaws.{Running}
 use Rattle.engine.specs.SheetLaws.{onward, onward-next, onward-over, prepare-onward, run-lengths, run-ends, Passes, run-passes}
 use Rattle.engine.specs.Allowed.{Fits, Accepts}
 use Rattle.engine.specs.AllowedLaws.{fails, fits-allowed, accepts-clear, loops-on}
+use Rattle.engine.specs.CalculatesLaws.{calculates-clear}
 use Rattle.engine.specs.Histories.{Ran}
+use Rattle.engine.specs.RanLaws.{execute-ran, ran-one}
 use Rattle.engine.specs.Promise1.{Unread, Configures, Written, after, Turns, BodyAt, LoopsOn, RunAt, world, Before, Right, Encoded, Promise1}
 use Rattle.engine.specs.ReadingLaws.{read-written, unread-refused, refused-unread}
 use Rattle.engine.specs.StandLaws.{written-on, decoded-refused, onward-written, turns-onward, turns-snoc, turns-on, body-on, body-whole, body-broken, Breaks, body-either, turns-cut, bytes-cut, turns-bytes, body-bytes, stands-all}
@@ -91,15 +93,6 @@ module _ (s : List ℕ) (p : areBytes s) (os : List Operation) (at : ℕ) (m : M
       run-ends freshMachine vl s memory d (fits-allowed vl (length memory) .1 f) (ap (λ r. r .ending) q)
       ∙ ap (λ r. onEnding vl (world (r .machine) memory) d) q
 
--- what the laws of runs say: the passes of a run are a right answer, and the only one
-abbrev ExecuteRan : Type 0
-ExecuteRan = (vl loop : ℕ) (body : List Placed) (w : World) → Running vl loop body (begun w) → 1 ≤ length body → Ran vl loop body w (execute vl loop body w)
-
-abbrev RanOne : Type 0
-RanOne =
-    (vl loop : ℕ) (body : List Placed) (w : World) (r q : Progress) → Running vl loop body (begun w) → 1 ≤ length body → Ran vl loop body w r → Ran vl loop body w q
-    → r ≡ q
-
 -- a sheet that ends in a run does its passes, which are in good order before the first
 record Runs (vl : ℕ) (s memory : List ℕ) (m : Machine) (loop : ℕ) (cs : List Placed) : Type 0 where
   executes : run vl s memory ≡ execute vl loop cs (world m memory)
@@ -119,7 +112,7 @@ sheet-runs vl s memory p os at m loop cs t f r l =
       some = k .follows .some;
     }
 
-module _ (execute-ran : ExecuteRan) (ran-one : RanOne) (vl : ℕ) (s memory : List ℕ) (p : areBytes s) where
+module _ (vl : ℕ) (s memory : List ℕ) (p : areBytes s) where
   -- a right answer is the run's
   only : (r : Progress) → Right vl s memory r → r ≡ run vl s memory
   only r (Right.lengths n e) = e ∙ sym (run-lengths freshMachine vl s memory (fails _ (fits-allowed vl (length memory)) n))
@@ -135,8 +128,8 @@ module _ (execute-ran : ExecuteRan) (ran-one : RanOne) (vl : ℕ) (s memory : Li
       e ∙ sym (answered s p os at m t vl memory (refused LoopRegister at) f (last-from s p os at m t loop cs false w (fails _ (loops-on loop cs m) n)))
   only r (Right.ran f os at m loop cs t w l h) =
       let k = sheet-runs vl s memory p os at m loop cs t f w l in
-      ran-one vl loop cs (world m memory) r (execute vl loop cs (world m memory)) (k .running) (k .some) h
-      (execute-ran vl loop cs (world m memory) (k .running) (k .some))
+      ran-one calculates-clear vl loop cs (world m memory) (k .running) (k .some) r (execute vl loop cs (world m memory)) h
+      (execute-ran calculates-clear vl loop cs (world m memory) (k .running) (k .some))
       ∙ sym (k .executes)
 
   module _ (f : Fits vl (length memory)) (os : List Operation) (at : ℕ) (m : Machine) (t : Before s os at m) where
@@ -158,7 +151,7 @@ module _ (execute-ran : ExecuteRan) (ran-one : RanOne) (vl : ℕ) (s memory : Li
             let l : LoopsOn loop cs m = loops-on loop cs m .0 q in
             let k = sheet-runs vl s memory p os at m loop cs t f v l in
             Right.ran f os at m loop cs t v l
-            (subst (Ran vl loop cs (world m memory)) (sym (k .executes)) (execute-ran vl loop cs (world m memory) (k .running) (k .some)))
+            (subst (Ran vl loop cs (world m memory)) (sym (k .executes)) (execute-ran calculates-clear vl loop cs (world m memory) (k .running) (k .some)))
 
         trails : (b : Bool) → ltb to (length s) ≡ b → Right vl s memory (run vl s memory)
         trails true e =
@@ -258,21 +251,20 @@ encoded vl s memory r (Right.ran f os at m loop cs t w l h) v =
     Encoded.with-run (b .0) os at m loop cs t w
     (stands-all s _ (stands-join (b .1) (stands-join k (body-bytes s (w .from) cs (length s) (w .written .stands .within) (w .body)))))
 
-module _ (execute-ran : ExecuteRan) (ran-one : RanOne) where
-  -- the operations before a place are done in the sheet that is cut there
-  cut-done : (vl : ℕ) (s memory : List ℕ) → areBytes s → Fits vl (length memory) → (os : List Operation) (at : ℕ) (m : Machine) → Before s os at m
-      → run vl (take at s) memory ≡ begun (world m memory)
-  cut-done vl s memory p f os at m t =
-      let k = turns-on s 0 freshMachine os at m p (omega arith) t in
-      let e : at ≡ length (take at s) = sym (length-take-le at s (k .1)) in
-      let c : Before (take at s) os at m = turns-cut s at 0 freshMachine os at m p (k .1) (omega arith) t in
-      sym (only execute-ran ran-one vl (take at s) memory (bytes-cut s at p) (begun (world m memory)) (Right.over f os m (subst (λ n. Before (take at s) os n m) e c) refl))
+-- the operations before a place are done in the sheet that is cut there
+cut-done : (vl : ℕ) (s memory : List ℕ) → areBytes s → Fits vl (length memory) → (os : List Operation) (at : ℕ) (m : Machine) → Before s os at m
+    → run vl (take at s) memory ≡ begun (world m memory)
+cut-done vl s memory p f os at m t =
+    let k = turns-on s 0 freshMachine os at m p (omega arith) t in
+    let e : at ≡ length (take at s) = sym (length-take-le at s (k .1)) in
+    let c : Before (take at s) os at m = turns-cut s at 0 freshMachine os at m p (k .1) (omega arith) t in
+    sym (only vl (take at s) memory (bytes-cut s at p) (begun (world m memory)) (Right.over f os m (subst (λ n. Before (take at s) os n m) e c) refl))
 
-  -- Promise 1
-  pub promise1 : (vl : ℕ) (s memory : List ℕ) → areBytes s → Promise1 vl s memory
-  promise1 vl s memory p = record {
-    right = right execute-ran ran-one vl s memory p;
-    only = only execute-ran ran-one vl s memory p;
-    stands = λ f os at m t. cut-done vl s memory p f os at m t;
-    whole = λ v. encoded vl s memory (run vl s memory) (right execute-ran ran-one vl s memory p) v;
-  }
+-- Promise 1
+pub promise1 : (vl : ℕ) (s memory : List ℕ) → areBytes s → Promise1 vl s memory
+promise1 vl s memory p = record {
+  right = right vl s memory p;
+  only = only vl s memory p;
+  stands = λ f os at m t. cut-done vl s memory p f os at m t;
+  whole = λ v. encoded vl s memory (run vl s memory) (right vl s memory p) v;
+}
