@@ -36,7 +36,6 @@ use Rattle.engine.specs.EndLaws.{Running}
 use Rattle.engine.specs.SheetLaws.{onward, onward-next, onward-over, prepare-onward, run-lengths, run-ends, Passes, run-passes}
 use Rattle.engine.specs.Allowed.{Fits, Accepts}
 use Rattle.engine.specs.AllowedLaws.{fails, fits-allowed, accepts-clear, loops-on}
-use Rattle.engine.specs.CalculatesLaws.{calculates-clear}
 use Rattle.engine.specs.Histories.{Ran}
 use Rattle.engine.specs.RanLaws.{execute-ran, ran-one}
 use Rattle.engine.specs.Promise1.{Unread, Configures, Written, after, Turns, BodyAt, LoopsOn, RunAt, world, Before, Right, Encoded, Promise1}
@@ -94,13 +93,13 @@ module _ (s : List ℕ) (p : areBytes s) (os : List Operation) (at : ℕ) (m : M
       ∙ ap (λ r. onEnding vl (world (r .machine) memory) d) q
 
 -- a sheet that ends in a run does its passes, which are in good order before the first
-record Runs (vl : ℕ) (s memory : List ℕ) (m : Machine) (loop : ℕ) (cs : List Placed) : Type 0 where
-  executes : run vl s memory ≡ execute vl loop cs (world m memory)
-  running : Running vl loop cs (begun (world m memory))
-  some : 1 ≤ length cs
+pub record Runs (vl : ℕ) (s memory : List ℕ) (m : Machine) (loop : ℕ) (cs : List Placed) : Type 0 where
+  pub executes : run vl s memory ≡ execute vl loop cs (world m memory)
+  pub running : Running vl loop cs (begun (world m memory))
+  pub some : 1 ≤ length cs
 
 -- such is one whose run is read whole, with no byte behind it and a right loop register
-sheet-runs : (vl : ℕ) (s memory : List ℕ) (p : areBytes s) (os : List Operation) (at : ℕ) (m : Machine) (loop : ℕ) (cs : List Placed) → Before s os at m
+pub sheet-runs : (vl : ℕ) (s memory : List ℕ) (p : areBytes s) (os : List Operation) (at : ℕ) (m : Machine) (loop : ℕ) (cs : List Placed) → Before s os at m
     → Fits vl (length memory) → RunAt s at loop cs (length s) → LoopsOn loop cs m → Runs vl s memory m loop cs
 sheet-runs vl s memory p os at m loop cs t f r l =
     let e : onward s at m ≡ left m (runs loop cs) = last-from s p os at m t loop cs true r (loops-on loop cs m .1 l) in
@@ -128,8 +127,8 @@ module _ (vl : ℕ) (s memory : List ℕ) (p : areBytes s) where
       e ∙ sym (answered s p os at m t vl memory (refused LoopRegister at) f (last-from s p os at m t loop cs false w (fails _ (loops-on loop cs m) n)))
   only r (Right.ran f os at m loop cs t w l h) =
       let k = sheet-runs vl s memory p os at m loop cs t f w l in
-      ran-one calculates-clear vl loop cs (world m memory) (k .running) (k .some) r (execute vl loop cs (world m memory)) h
-      (execute-ran calculates-clear vl loop cs (world m memory) (k .running) (k .some))
+      ran-one vl loop cs (world m memory) (k .running) (k .some) r (execute vl loop cs (world m memory)) h
+      (execute-ran vl loop cs (world m memory) (k .running) (k .some))
       ∙ sym (k .executes)
 
   module _ (f : Fits vl (length memory)) (os : List Operation) (at : ℕ) (m : Machine) (t : Before s os at m) where
@@ -151,7 +150,7 @@ module _ (vl : ℕ) (s memory : List ℕ) (p : areBytes s) where
             let l : LoopsOn loop cs m = loops-on loop cs m .0 q in
             let k = sheet-runs vl s memory p os at m loop cs t f v l in
             Right.ran f os at m loop cs t v l
-            (subst (Ran vl loop cs (world m memory)) (sym (k .executes)) (execute-ran calculates-clear vl loop cs (world m memory) (k .running) (k .some)))
+            (subst (Ran vl loop cs (world m memory)) (sym (k .executes)) (execute-ran vl loop cs (world m memory) (k .running) (k .some)))
 
         trails : (b : Bool) → ltb to (length s) ≡ b → Right vl s memory (run vl s memory)
         trails true e =

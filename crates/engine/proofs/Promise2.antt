@@ -4,34 +4,30 @@
 --   run-named                     the calculations of a run name registers
 --   at-each, at-end, streams      the streams at every moment of a run; at its end; both together
 --   promise2
-use Prim.Native.Nat.{ℕ, _%_, _≤_, _<_}
+use Prim.Native.Nat.{ℕ, _%_, _<_}
 use mathlib.Core.Path.{_≡_, refl, sym, ap, subst}
-use mathlib.Core.Logic.{_⊎_, inl, inr, _↔_}
+use mathlib.Core.Logic.{_⊎_, inl, inr}
 use mathlib.Core.List.{List, [], map}
 use native.Mathlib.Omega.{arith}
 use lib.ListN.{length, take, length-map}
 use lib.Seq.{take-length}
 use Rattle.codec.specs.NumberLaws.{areBytes}
-use Rattle.codec.specs.declared.operation.Calculation.{Calculation}
 use Rattle.codec.specs.declared.operation.Operation.{Operation}
 use Rattle.engine.specs.Registers.{isFinished, reg}
-use Rattle.engine.specs.Calculate.{World, refusalOf, effect}
+use Rattle.engine.specs.Calculate.{World}
 use Rattle.engine.specs.Run.{Progress, begun, execute}
-use Rattle.engine.specs.Sheets.{run}
-use Rattle.engine.specs.Good.{AllGood}
 use Rattle.engine.specs.CalculationLaws.{Named}
-use Rattle.engine.specs.StreamLaws.{movedIn}
 use Rattle.engine.specs.HistoryLaws.{AllNamed}
 use Rattle.engine.specs.EndLaws.{Running}
-use Rattle.engine.specs.Allowed.{Fits, Calculates}
-use Rattle.engine.specs.Histories.{Did, Entry, worldAt, movedOf, Ran}
+use Rattle.engine.specs.Histories.{Entry, worldAt, movedOf, Ran}
 use Rattle.engine.specs.Given.{Stream, Given, none, going, ended, givenFor}
 use Rattle.engine.specs.GivenLaws.{Inside, Has, before-has}
 use Rattle.engine.specs.MomentLaws.{inside-finished, inside-moment}
 use Rattle.engine.specs.MovingLaws.{world-last, in-turn-named, each-named, follow-inside}
-use Rattle.engine.specs.Promise1.{Before, RunAt, LoopsOn, world}
+use Rattle.engine.specs.RanLaws.{execute-ran}
+use Rattle.engine.proofs.Promise1.{sheet-runs}
+use Rattle.engine.specs.Promise1.{Before, LoopsOn, world}
 use Rattle.engine.specs.Promise2.{Streams, Promise2}
-use Rattle.engine.specs.declared.check.Why.the-variants.{Nothing}
 use Rattle.engine.specs.declared.register.State.{State}
 use Rattle.engine.specs.declared.register.State.the-variants.{Plain, Configuring, Open, Finished}
 use Rattle.engine.specs.declared.register.Register.{Register}
@@ -68,52 +64,42 @@ run-named vl loop body w r nm q =
     (λ k h. subst (λ (c : Placed). Named (c .calculation)) (sym (q .turns k (subst (λ n. k < n) (length-map (q .entries) (λ (e : Entry). e .calculation)) h)))
     (in-turn-named body nm (k % length body)))
 
-module _
-    (did-moved : (vl : ℕ) (c : Calculation) (w v : World) (taken : ℕ → List (List ℕ)) → 8 ≤ vl → AllGood vl (w .machine) → Named c → Did vl c w v taken
-    → (v ≡ effect vl c w) × ((i : ℕ) → i < 32 → taken i ≡ movedIn vl c w i))
-    (calculates-clear : (vl : ℕ) (c : Calculation) (w : World) → (refusalOf vl c w ≡ Nothing) ↔ Calculates vl c w)
-    (execute-ran : (vl loop : ℕ) (body : List Placed) (w : World) → Running vl loop body (begun w) → 1 ≤ length body
-    → Ran vl loop body w (execute vl loop body w))
-    (runs-execute : (vl : ℕ) (s memory : List ℕ) → areBytes s → Fits vl (length memory) → (os : List Operation) (at : ℕ) (m : Machine) (loop : ℕ)
-    (cs : List Placed) → Before s os at m → RunAt s at loop cs (length s) → LoopsOn loop cs m
-    → (run vl s memory ≡ execute vl loop cs (world m memory)) × (Running vl loop cs (begun (world m memory)) × (1 ≤ length cs)))
+module _ (vl : ℕ) (s memory : List ℕ) (os : List Operation) (at : ℕ) (m : Machine) (loop : ℕ) (cs : List Placed) (r : Progress)
+    (b : Before s os at m) (g : Running vl loop cs (begun (world m memory))) (q : Ran vl loop cs (world m memory) r)
   where
-    module _ (vl : ℕ) (s memory : List ℕ) (os : List Operation) (at : ℕ) (m : Machine) (loop : ℕ) (cs : List Placed) (r : Progress)
-        (b : Before s os at m) (g : Running vl loop cs (begun (world m memory))) (q : Ran vl loop cs (world m memory) r)
-      where
-        -- a stream that was ended, at every moment of the run
-        at-each : (i : ℕ) → i < 32 → (t : Stream) → givenFor i os ≡ ended t → (k : ℕ)
-            → Inside t (movedOf (take k (q .entries)) i) (reg (worldAt (world m memory) (q .entries) k .machine) i)
-        at-each i h t e k =
-            follow-inside did-moved calculates-clear vl (q .entries) (world m memory) (r .world) i t [] k (g .lanes) (g .good)
-            (run-named vl loop cs (world m memory) r (g .named) q) (q .follow) h (ended-inside s os at m b i h t e)
+    -- a stream that was ended, at every moment of the run
+    at-each : (i : ℕ) → i < 32 → (t : Stream) → givenFor i os ≡ ended t → (k : ℕ)
+        → Inside t (movedOf (take k (q .entries)) i) (reg (worldAt (world m memory) (q .entries) k .machine) i)
+    at-each i h t e k =
+        follow-inside vl (q .entries) (world m memory) (r .world) i t [] k (g .lanes) (g .good)
+        (run-named vl loop cs (world m memory) r (g .named) q) (q .follow) h (ended-inside s os at m b i h t e)
 
-        -- at its end
-        at-end : (i : ℕ) → i < 32 → (t : Stream) → givenFor i os ≡ ended t → Inside t (movedOf (q .entries) i) (reg (r .world .machine) i)
-        at-end i h t e =
-            subst (λ es. Inside t (movedOf es i) (reg (r .world .machine) i)) (take-length (q .entries))
-            (subst (λ w. Inside t (movedOf (take (length (q .entries)) (q .entries)) i) (reg (w .machine) i))
-            (world-last vl (q .entries) (world m memory) (r .world) (q .follow))
-            (at-each i h t e (length (q .entries))))
+    -- at its end
+    at-end : (i : ℕ) → i < 32 → (t : Stream) → givenFor i os ≡ ended t → Inside t (movedOf (q .entries) i) (reg (r .world .machine) i)
+    at-end i h t e =
+        subst (λ es. Inside t (movedOf es i) (reg (r .world .machine) i)) (take-length (q .entries))
+        (subst (λ w. Inside t (movedOf (take (length (q .entries)) (q .entries)) i) (reg (w .machine) i))
+        (world-last vl (q .entries) (world m memory) (r .world) (q .follow))
+        (at-each i h t e (length (q .entries))))
 
-        -- the streams of the run
-        streams : LoopsOn loop cs m → Streams vl os m memory loop cs r
-        streams l =
-            let (t, e) = ended-stream (givenFor loop os) (reg m loop) (before-has s os at m loop b (g .below)) (l .stream) in
-            record {
-              ran = q;
-              moments = λ i h t e k n. inside-moment t _ (worldAt (world m memory) (q .entries) k .machine) i h (at-each i h t e k);
-              stream = t;
-              is-ended = e;
-              all = λ v. inside-finished t (movedOf (q .entries) loop) (reg (r .world .machine) loop) (at-end loop (g .below) t e) .0 (ap isFinished (q .done v .1));
-            }
+    -- the streams of the run
+    streams : LoopsOn loop cs m → Streams vl os m memory loop cs r
+    streams l =
+        let (t, e) = ended-stream (givenFor loop os) (reg m loop) (before-has s os at m loop b (g .below)) (l .stream) in
+        record {
+          ran = q;
+          moments = λ i h t e k n. inside-moment t _ (worldAt (world m memory) (q .entries) k .machine) i h (at-each i h t e k);
+          stream = t;
+          is-ended = e;
+          all = λ v. inside-finished t (movedOf (q .entries) loop) (reg (r .world .machine) loop) (at-end loop (g .below) t e) .0 (ap isFinished (q .done v .1));
+        }
 
-    -- for every sheet
-    pub promise2 : (vl : ℕ) (s memory : List ℕ) → areBytes s → Promise2 vl s memory
-    promise2 vl s memory a = record {
-      prepared = λ os at m b i h t e. inside-moment t [] m i h (ended-inside s os at m b i h t e);
-      runs = λ f os at m loop cs b r l.
-          let q = runs-execute vl s memory a f os at m loop cs b r l in
-          let w : World = world m memory in
-          subst (Streams vl os m memory loop cs) (sym (q .0)) (streams vl s memory os at m loop cs (execute vl loop cs w) b (q .1 .0) (execute-ran vl loop cs w (q .1 .0) (q .1 .1)) l);
-    }
+-- for every sheet
+pub promise2 : (vl : ℕ) (s memory : List ℕ) → areBytes s → Promise2 vl s memory
+promise2 vl s memory a = record {
+  prepared = λ os at m b i h t e. inside-moment t [] m i h (ended-inside s os at m b i h t e);
+  runs = λ f os at m loop cs b r l.
+      let q = sheet-runs vl s memory a os at m loop cs b f r l in
+      let w : World = world m memory in
+      subst (Streams vl os m memory loop cs) (sym (q .executes)) (streams vl s memory os at m loop cs (execute vl loop cs w) b (q .running) (execute-ran vl loop cs w (q .running) (q .some)) l);
+}

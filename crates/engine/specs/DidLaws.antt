@@ -4,7 +4,7 @@
 --   did-one, did-taken  a completed calculation is the effect, and moves what the effect moves
 use Prim.Native.Nat.{ℕ, _*_, _/_, _≤_, _<_}
 use mathlib.Core.Path.{_≡_, refl, sym, _∙_, ap, ap₂, subst}
-use mathlib.Core.Logic.{_⊎_, inl, inr, ⊎-elim, _↔_}
+use mathlib.Core.Logic.{_⊎_, inl, inr, ⊎-elim}
 use mathlib.Core.List.{List, map}
 use native.Mathlib.Omega.{arith}
 use native.Mathlib.Decide.{ℕ-discrete}
@@ -15,9 +15,10 @@ use Rattle.engine.specs.Memory.{fetch}
 use Rattle.engine.specs.Lanes.{lane, lanewise}
 use Rattle.engine.specs.Registers.{isOpen, shapeOf, nextChunk, noRegister, reg}
 use Rattle.engine.specs.Calculate.{World, given, results, refusalOf, effect}
-use Rattle.engine.specs.Allowed.{Source, Sink, Calculates}
+use Rattle.engine.specs.Allowed.{Source, Sink}
 use Rattle.engine.specs.Good.{AllGood}
 use Rattle.engine.specs.CalculationLaws.{Named}
+use Rattle.engine.specs.CalculatesLaws.{calculates-clear}
 use Rattle.engine.specs.EffectLaws.{effect-length, room}
 use Rattle.engine.specs.StreamLaws.{movedIn, load-moves, shut-idle}
 use Rattle.engine.specs.Histories.{Chunk, Gives, Becomes, Stores, Did}
@@ -26,8 +27,7 @@ use Rattle.engine.specs.declared.check.Why.the-variants.{Nothing}
 use Rattle.engine.specs.declared.register.State.the-variants.{Open}
 use Rattle.engine.specs.declared.register.Register.{Register}
 
-module _ (allows : (vl : ℕ) (c : Calculation) (w : World) → (refusalOf vl c w ≡ Nothing) ↔ Calculates vl c w)
-    (vl : ℕ) (c : Calculation) (w : World) (g : AllGood vl (w .machine)) (nm : Named c) (l : 8 ≤ vl) where
+module _ (vl : ℕ) (c : Calculation) (w : World) (g : AllGood vl (w .machine)) (nm : Named c) (l : 8 ≤ vl) where
   -- a register before it
   abbrev at : ℕ → Register
   at i = reg (w .machine) i
@@ -39,12 +39,12 @@ module _ (allows : (vl : ℕ) (c : Calculation) (w : World) → (refusalOf vl c 
   module _ (e : refusalOf vl c w ≡ Nothing) where
     -- the destination is plain or an open store
     sink : (i : ℕ) → i ≡ c .destination → Sink (at i)
-    sink i p = subst (λ j. Sink (at j)) (sym p) (allows vl c w .0 e .destination)
+    sink i p = subst (λ j. Sink (at j)) (sym p) (calculates-clear vl c w .0 e .destination)
 
     -- a source is plain or an open load
     source : (i : ℕ) → (i ≡ c .first) ⊎ (i ≡ c .second) → Source (at i)
     source i s =
-        ⊎-elim (λ p. subst (λ j. Source (at j)) (sym p) (allows vl c w .0 e .first)) (λ p. subst (λ j. Source (at j)) (sym p) (allows vl c w .0 e .second)) s
+        ⊎-elim (λ p. subst (λ j. Source (at j)) (sym p) (calculates-clear vl c w .0 e .first)) (λ p. subst (λ j. Source (at j)) (sym p) (calculates-clear vl c w .0 e .second)) s
 
     -- a store has room for the result
     roomy : (i : ℕ) → i ≡ c .destination → at i .state ≡ Open → length (results vl c w) ≤ length (nextChunk vl (at i))
@@ -129,7 +129,7 @@ module _ (allows : (vl : ℕ) (c : Calculation) (w : World) → (refusalOf vl c 
     pub did-effect : Did vl c w (effect vl c w) (movedIn vl c w)
     unfolding results
     did-effect = record {
-      calculates = allows vl c w .0 e;
+      calculates = calculates-clear vl c w .0 e;
       first = given vl (w .memory) (at (c .first));
       second = given vl (w .memory) (at (c .second));
       gives-first = gives (c .first) (nm .first) (inl refl);
@@ -144,7 +144,7 @@ module _ (allows : (vl : ℕ) (c : Calculation) (w : World) → (refusalOf vl c 
   module _ (v : World) (taken : ℕ → List (List ℕ)) (d : Did vl c w v taken) where
     -- a completed calculation is not refused
     not-refused : refusalOf vl c w ≡ Nothing
-    not-refused = allows vl c w .1 (d .calculates)
+    not-refused = calculates-clear vl c w .1 (d .calculates)
 
     -- its lanes are the engine's
     out-one : d .out ≡ results vl c w

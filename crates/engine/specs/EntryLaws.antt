@@ -7,20 +7,19 @@
 --   Followed, followed                  and a history is that of its calculations
 use Prim.Native.Nat.{ℕ, zero, suc, _%_, _≤_, _<_}
 use mathlib.Core.Path.{_≡_, refl, sym, _∙_, ap, ap₂, subst}
-use mathlib.Core.Logic.{_↔_}
 use mathlib.Core.List.{List, [], _∷_, _++_, map}
 use native.Mathlib.Omega.{arith}
 use native.Mathlib.Nat.{mod-lt}
 use lib.ListN.{length, getD, take, length-map}
 use Rattle.codec.specs.declared.operation.Calculation.{Calculation}
 use Rattle.engine.specs.Calculate.{World, refusalOf, effect}
-use Rattle.engine.specs.Allowed.{Calculates}
 use Rattle.engine.specs.Good.{AllGood}
 use Rattle.engine.specs.CalculationLaws.{Named}
 use Rattle.engine.specs.EffectGood.{effect-good}
 use Rattle.engine.specs.StreamLaws.{movedIn}
 use Rattle.engine.specs.HistoryLaws.{AllNamed, Completed, afterAll, movedOver}
 use Rattle.engine.specs.Histories.{Entry, Follow, worldAt, movedOf, noPlaced, inTurn}
+use Rattle.engine.specs.CalculatesLaws.{calculates-clear}
 use Rattle.engine.specs.DidLaws.{did-effect, did-taken, did-one}
 use Rattle.engine.specs.declared.check.Why.the-variants.{Nothing}
 use Rattle.engine.specs.declared.run.Placed.{Placed}
@@ -81,14 +80,14 @@ pub record Followed (vl : ℕ) (w : World) (es : List Entry) (v : World) : Type 
   pub worlds : (k : ℕ) → worldAt w es k ≡ afterAll vl w (take k (calculationsOf es))
   pub moved : (i : ℕ) → i < 32 → (k : ℕ) → movedOf (take k es) i ≡ movedOver vl w (take k (calculationsOf es)) i
 
-module _ (allows : (vl : ℕ) (c : Calculation) (w : World) → (refusalOf vl c w ≡ Nothing) ↔ Calculates vl c w) (vl : ℕ) (l : 8 ≤ vl) where
+module _ (vl : ℕ) (l : 8 ≤ vl) where
   -- each goes on where the one before it ended
   pub entries-follow : (w : World) (cs : List Placed) → AllNamed cs → AllGood vl (w .machine) → Completed vl w cs
       → Follow vl w (entriesOf vl w cs) (afterAll vl w cs)
   unfolding entriesOf Follow afterAll Completed AllNamed
   entries-follow w [] nm g k = refl
   entries-follow w (c ∷ cs) nm g k = (
-    did-effect allows vl (c .calculation) w g (nm .0) l (k .0),
+    did-effect vl (c .calculation) w g (nm .0) l (k .0),
     entries-follow (effect vl (c .calculation) w) cs (nm .1) (effect-good vl (c .calculation) w g (nm .0) (k .0)) (k .1),
   )
 
@@ -113,10 +112,10 @@ module _ (allows : (vl : ℕ) (c : Calculation) (w : World) → (refusalOf vl c 
       on ih = record { completed = (k, q .completed); world = q .world; worlds = worlds; moved = moved }
         where
           k : refusalOf vl c w ≡ Nothing
-          k = allows vl c w .1 (f .0 .calculates)
+          k = calculates-clear vl c w .1 (f .0 .calculates)
 
           d : e .after ≡ effect vl c w
-          d = did-one allows vl c w g (nm .0) l (e .after) (e .taken) (f .0)
+          d = did-one vl c w g (nm .0) l (e .after) (e .taken) (f .0)
 
           q : Followed vl (effect vl c w) es v
           q = ih (effect-good vl c w g (nm .0) k) (subst (λ x. Follow vl x es v) d (f .1))
@@ -127,4 +126,4 @@ module _ (allows : (vl : ℕ) (c : Calculation) (w : World) → (refusalOf vl c 
 
           moved : (i : ℕ) → i < 32 → (k : ℕ) → movedOf (take k (e ∷ es)) i ≡ movedOver vl w (take k (e .calculation ∷ calculationsOf es)) i
           moved i b zero = refl
-          moved i b (suc k) = ap₂ _++_ (did-taken allows vl c w g (nm .0) l (e .after) (e .taken) (f .0) i b) (q .moved i b k)
+          moved i b (suc k) = ap₂ _++_ (did-taken vl c w g (nm .0) l (e .after) (e .taken) (f .0) i b) (q .moved i b k)

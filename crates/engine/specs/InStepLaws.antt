@@ -6,14 +6,14 @@
 use Prim.Native.Nat.{ℕ, zero, suc, _+_, _*_, _/_, _≤_, _<_}
 use mathlib.Core.Path.{_≡_, refl, sym, _∙_, ap, subst}
 use mathlib.Core.Logic.{_⊎_, inl, inr}
-use mathlib.Core.List.{List, [], _∷_, _++_, map}
+use mathlib.Core.List.{List, [], _∷_, map}
 use mathlib.Core.Bool.{Bool, true, false, cond, not, _&&_, _||_}
 use native.Mathlib.Omega.{arith}
 use native.Mathlib.Decide.{decLt}
 use lib.ListN.{length, getD, take, drop, length-map, length-take, length-drop}
 use lib.IntN.{ℤ, pos, negsuc}
 use lib.Seq.{take-length, getD-take, getD-drop}
-use lib.Dec.{eqb, ltb, leb, leb→le}
+use lib.Dec.{eqb, leb→le}
 use borrow.Author.Tests.{eq-eqb, ne-eqb, lt-leb, le-leb, le-ltb}
 use Rattle.codec.specs.declared.header.Kind.{Kind}
 use Rattle.codec.specs.declared.header.Kind.the-variants.{Load, Store}
@@ -21,7 +21,7 @@ use Rattle.codec.specs.declared.operation.Calculation.{Calculation}
 use Rattle.engine.specs.Loops.{sizeAt, elements}
 use Rattle.engine.specs.Chunks.{groupsOf, chunk}
 use Rattle.engine.specs.Addresses.{address, inside}
-use Rattle.engine.specs.Memory.{fetch, stored, holding}
+use Rattle.engine.specs.Memory.{fetch, holding}
 use Rattle.engine.specs.Lanes.{lane, lanewise}
 use Rattle.engine.specs.Registers.{isConfiguring, isOpen, isFinished, openLoad, openStore, stateAfter, shapeOf, nextChunk, movedBy, toCome, reg}
 use Rattle.engine.specs.Calculate.{World, given, results, allInside, outside, refusalOf, readFrom, writtenTo, memoryAfter, effect}

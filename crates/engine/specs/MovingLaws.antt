@@ -6,7 +6,6 @@
 --   did-inside, follow-inside        a stream goes on by a completed calculation; at every moment of a history
 use Prim.Native.Nat.{ℕ, zero, suc, _+_, _≤_, _<_}
 use mathlib.Core.Path.{_≡_, refl, sym, _∙_, ap, subst}
-use mathlib.Core.Logic.{_↔_}
 use mathlib.Core.List.{List, [], _∷_, _++_, map, append-assoc, append-nil}
 use mathlib.Core.Bool.{true}
 use native.Mathlib.Omega.{arith}
@@ -24,7 +23,8 @@ use Rattle.engine.specs.CalculationLaws.{never, Named}
 use Rattle.engine.specs.EffectGood.{effect-good}
 use Rattle.engine.specs.StreamLaws.{movedIn, goes}
 use Rattle.engine.specs.HistoryLaws.{AllNamed}
-use Rattle.engine.specs.Allowed.{Calculates}
+use Rattle.engine.specs.CalculatesLaws.{calculates-clear}
+use Rattle.engine.specs.DidLaws.{did-one, did-taken}
 use Rattle.engine.specs.Histories.{noPlaced, Did, Entry, Follow, worldAt, movedOf}
 use Rattle.engine.specs.Given.{Stream, patternOf}
 use Rattle.engine.specs.GivenLaws.{Bears, elementsOf, Inside}
@@ -108,32 +108,26 @@ unfolding AllNamed
 each-named [] f = tt
 each-named (c ∷ cs) f = (f 0 (omega arith), each-named cs (λ k h. f (suc k) (omega arith)))
 
-module _
-    (did-moved : (vl : ℕ) (c : Calculation) (w v : World) (taken : ℕ → List (List ℕ)) → 8 ≤ vl → AllGood vl (w .machine) → Named c → Did vl c w v taken
-    → (v ≡ effect vl c w) × ((i : ℕ) → i < 32 → taken i ≡ movedIn vl c w i))
-    (calculates-clear : (vl : ℕ) (c : Calculation) (w : World) → (refusalOf vl c w ≡ Nothing) ↔ Calculates vl c w)
-  where
-    -- a stream goes on by a completed calculation, which leaves all registers good
-    pub did-inside : (vl : ℕ) (c : Calculation) (w v : World) (taken : ℕ → List (List ℕ)) (i : ℕ) (t : Stream) (soFar : List (List ℕ)) → 8 ≤ vl
-        → AllGood vl (w .machine) → Named c → Did vl c w v taken → i < 32 → Inside t soFar (reg (w .machine) i)
-        → AllGood vl (v .machine) × Inside t (soFar ++ taken i) (reg (v .machine) i)
-    did-inside vl c w v taken i t soFar l g nm d h s =
-        let e : refusalOf vl c w ≡ Nothing = calculates-clear vl c w .1 (d .calculates) in
-        let m = did-moved vl c w v taken l g nm d in
-        let x : AllGood vl (effect vl c w .machine) × Inside t (soFar ++ taken i) (reg (effect vl c w .machine) i) = (
-          effect-good vl c w g nm e,
-          subst (λ vs. Inside t (soFar ++ vs) (reg (effect vl c w .machine) i)) (sym (m .1 i h)) (inside-goes vl c w i t soFar (omega (arith, g .all)) e (g .good i h) s),
-        ) in
-        subst (λ u. AllGood vl (u .machine) × Inside t (soFar ++ taken i) (reg (u .machine) i)) (sym (m .0)) x
+-- a stream goes on by a completed calculation, which leaves all registers good
+pub did-inside : (vl : ℕ) (c : Calculation) (w v : World) (taken : ℕ → List (List ℕ)) (i : ℕ) (t : Stream) (soFar : List (List ℕ)) → 8 ≤ vl
+    → AllGood vl (w .machine) → Named c → Did vl c w v taken → i < 32 → Inside t soFar (reg (w .machine) i)
+    → AllGood vl (v .machine) × Inside t (soFar ++ taken i) (reg (v .machine) i)
+did-inside vl c w v taken i t soFar l g nm d h s =
+    let e : refusalOf vl c w ≡ Nothing = calculates-clear vl c w .1 (d .calculates) in
+    let x : AllGood vl (effect vl c w .machine) × Inside t (soFar ++ taken i) (reg (effect vl c w .machine) i) = (
+      effect-good vl c w g nm e,
+      subst (λ vs. Inside t (soFar ++ vs) (reg (effect vl c w .machine) i)) (sym (did-taken vl c w g nm l v taken d i h)) (inside-goes vl c w i t soFar (omega (arith, g .all)) e (g .good i h) s),
+    ) in
+    subst (λ u. AllGood vl (u .machine) × Inside t (soFar ++ taken i) (reg (u .machine) i)) (sym (did-one vl c w g nm l v taken d)) x
 
-    -- at every moment of a history
-    pub follow-inside : (vl : ℕ) (es : List Entry) (w v : World) (i : ℕ) (t : Stream) (soFar : List (List ℕ)) (k : ℕ) → 8 ≤ vl → AllGood vl (w .machine)
-        → AllNamed (map (λ (e : Entry). e .calculation) es) → Follow vl w es v → i < 32 → Inside t soFar (reg (w .machine) i)
-        → Inside t (soFar ++ movedOf (take k es) i) (reg (worldAt w es k .machine) i)
-    unfolding Follow worldAt movedOf AllNamed
-    follow-inside vl es w v i t soFar zero l g nm f h s = subst (λ vs. Inside t vs (reg (w .machine) i)) (sym (append-nil soFar)) s
-    follow-inside vl [] w v i t soFar (suc k) l g nm f h s = subst (λ vs. Inside t vs (reg (w .machine) i)) (sym (append-nil soFar)) s
-    follow-inside vl (e ∷ es) w v i t soFar (suc k) l g nm f h s =
-        let d = did-inside vl (e .calculation .calculation) w (e .after) (e .taken) i t soFar l g (nm .0) (f .0) h s in
-        subst (λ vs. Inside t vs (reg (worldAt (e .after) es k .machine) i)) (append-assoc soFar (e .taken i) (movedOf (take k es) i))
-        (follow-inside vl es (e .after) v i t (soFar ++ e .taken i) k l (d .0) (nm .1) (f .1) h (d .1))
+-- at every moment of a history
+pub follow-inside : (vl : ℕ) (es : List Entry) (w v : World) (i : ℕ) (t : Stream) (soFar : List (List ℕ)) (k : ℕ) → 8 ≤ vl → AllGood vl (w .machine)
+    → AllNamed (map (λ (e : Entry). e .calculation) es) → Follow vl w es v → i < 32 → Inside t soFar (reg (w .machine) i)
+    → Inside t (soFar ++ movedOf (take k es) i) (reg (worldAt w es k .machine) i)
+unfolding Follow worldAt movedOf AllNamed
+follow-inside vl es w v i t soFar zero l g nm f h s = subst (λ vs. Inside t vs (reg (w .machine) i)) (sym (append-nil soFar)) s
+follow-inside vl [] w v i t soFar (suc k) l g nm f h s = subst (λ vs. Inside t vs (reg (w .machine) i)) (sym (append-nil soFar)) s
+follow-inside vl (e ∷ es) w v i t soFar (suc k) l g nm f h s =
+    let d = did-inside vl (e .calculation .calculation) w (e .after) (e .taken) i t soFar l g (nm .0) (f .0) h s in
+    subst (λ vs. Inside t vs (reg (worldAt (e .after) es k .machine) i)) (append-assoc soFar (e .taken i) (movedOf (take k es) i))
+    (follow-inside vl es (e .after) v i t (soFar ++ e .taken i) k l (d .0) (nm .1) (f .1) h (d .1))

@@ -4,8 +4,8 @@
 --   checksGiven     the checks of an operation, on what was given for its register
 --   offered         they are the engine's
 --   ended-streaming what is left once all operations of a stream are accepted: the stream with that pattern, nothing moved
-use Prim.Native.Nat.{ℕ, _+_}
-use mathlib.Core.Path.{_≡_, refl, _∙_, ap}
+use Prim.Native.Nat.{_+_}
+use mathlib.Core.Path.{_≡_, refl}
 use mathlib.Core.List.{List, [], _∷_}
 use mathlib.Core.Bool.{Bool, true, false, not, cond, _||_}
 use lib.ListN.{length}
@@ -16,15 +16,13 @@ use Rattle.codec.specs.declared.operation.Operation.the-variants as op
 use Rattle.codec.specs.declared.refusal.Refusal.the-variants.{WrongState, TooMany, Misplaced, LowHigh, Product}
 use Rattle.engine.specs.Rules.{lowOrHigh, highsOf, product}
 use Rattle.engine.specs.Checks.{Check, _if_, firstOf}
-use Rattle.engine.specs.Registers.{isConfiguring, isOpen, reg}
-use Rattle.engine.specs.Configure.{uncovered, registerOf, checksFor, whyNot}
+use Rattle.engine.specs.Registers.{isConfiguring, isOpen}
+use Rattle.engine.specs.Configure.{uncovered, checksFor}
 use Rattle.engine.specs.Given.{Stream, patternOf, Given, none, going, ended}
-use Rattle.engine.specs.GivenLaws.{elementsOf, Inside, Has}
+use Rattle.engine.specs.GivenLaws.{elementsOf, Has}
 use Rattle.engine.specs.InStep.{Streaming}
-use Rattle.engine.specs.declared.stream.Pattern.{Pattern}
 use Rattle.engine.specs.declared.register.State.the-variants.{Open, Finished}
 use Rattle.engine.specs.declared.register.Register.{Register}
-use Rattle.engine.specs.declared.register.Machine.{Machine}
 
 -- the checks of an operation on what was given for its register: open needs a register without a stream, or one whose stream had no
 -- element; all others one whose stream is being given

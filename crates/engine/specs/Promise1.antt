@@ -18,10 +18,10 @@ use mathlib.Core.Logic.{_⊎_, _↔_}
 use mathlib.Core.Bool.{true}
 use mathlib.Core.List.{List, [], _∷_, _++_}
 use lib.ListN.{length, getD, take}
-use lib.IntN.{ℤ, pos, natAbs}
+use lib.IntN.{pos, natAbs}
 use lib.Signed.{_≤ℤ_}
 use Rattle.codec.specs.Numbers.{numberBytes, signedOf}
-use Rattle.codec.specs.NumberLaws.{areBytes, Stands}
+use Rattle.codec.specs.NumberLaws.{Stands}
 use Rattle.codec.specs.Headers.{bitsOf}
 use Rattle.codec.specs.HeaderLaws.{isFree}
 use Rattle.codec.specs.Operations.{operationBytes, calculationBytes, actionCode}

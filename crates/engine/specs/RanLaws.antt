@@ -15,7 +15,6 @@ use Rattle.codec.specs.declared.refusal.Refusal.{Refusal}
 use Rattle.engine.specs.Registers.{reg}
 use Rattle.engine.specs.Calculate.{World, refusalOf}
 use Rattle.engine.specs.Run.{Progress, begun, execute}
-use Rattle.engine.specs.Allowed.{Calculates}
 use Rattle.engine.specs.GoodLaws.{First, first-because, because-first}
 use Rattle.engine.specs.HistoryLaws.{AllNamed}
 use Rattle.engine.specs.EndLaws.{Running}
@@ -23,7 +22,7 @@ use Rattle.engine.specs.Histories.{Entry, Follow, noPlaced, inTurn, chec
 use Rattle.engine.specs.TurnLaws.{Turned, turned-one}
 use Rattle.engine.specs.RoundLaws.{execute-turned}
 use Rattle.engine.specs.EntryLaws.{named-turns, entriesOf, calculationsOf, entries-calculations, entries-length, entries-world, entries-follow, Followed, followed}
-use Rattle.engine.specs.declared.check.Why.the-variants.{Nothing, Because}
+use Rattle.engine.specs.declared.check.Why.the-variants.{Because}
 use Rattle.engine.specs.declared.run.Placed.{Placed}
 
 -- a calculation is refused by the first check that applies
@@ -31,15 +30,14 @@ refused-first : (vl : ℕ) (c : Calculation) (w : World) (x : Refusal) → (refu
 unfolding refusalOf
 refused-first vl c w x = (first-because (checksIn vl c w) x, because-first (checksIn vl c w) x)
 
-module _ (allows : (vl : ℕ) (c : Calculation) (w : World) → (refusalOf vl c w ≡ Nothing) ↔ Calculates vl c w)
-    (vl loop : ℕ) (body : List Placed) (w : World) (u : Running vl loop body (begun w)) (some : 1 ≤ length body) where
+module _ (vl loop : ℕ) (body : List Placed) (w : World) (u : Running vl loop body (begun w)) (some : 1 ≤ length body) where
   -- a run of its calculations in turn has a history
   pub turned-ran : (r : Progress) → Turned vl loop body w r → Ran vl loop body w r
   turned-ran r t = record {
     entries = es;
     follow =
         subst (Follow vl w es) (sym (t .world))
-        (entries-follow allows vl (u .lanes) w cs (named-turns body cs some (u .named) (t .turns)) (u .good) (t .completed));
+        (entries-follow vl (u .lanes) w cs (named-turns body cs some (u .named) (t .turns)) (u .good) (t .completed));
     turns = λ k h. ap (λ l. getD l k noPlaced) (entries-calculations vl w cs) ∙ t .turns k (omega (arith, n));
     calculations = t .count ∙ sym n;
     passes = t .passes ∙ ap (λ m. m / length body) (sym n);
@@ -74,7 +72,7 @@ module _ (allows : (vl : ℕ) (c : Calculation) (w : World) → (refusalOf vl c 
 
   -- none of them is refused, and its worlds and what it moved are theirs
   pub ran-followed : (r : Progress) (h : Ran vl loop body w r) → Followed vl w (h .entries) (r .world)
-  ran-followed r h = followed allows vl (u .lanes) w (h .entries) (r .world) (ran-named r h) (u .good) (h .follow)
+  ran-followed r h = followed vl (u .lanes) w (h .entries) (r .world) (ran-named r h) (u .good) (h .follow)
 
   -- so it is one of its calculations in turn
   pub ran-turned : (r : Progress) → Ran vl loop body w r → Turned vl loop body w r
