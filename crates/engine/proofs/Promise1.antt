@@ -17,6 +17,7 @@ use lib.ListN.{length, take}
 use lib.Seq.{length-take-le}
 use lib.Dec.{ltb}
 use borrow.Author.Tests.{ltb-true, ltb-false, lt-ltb, le-ltb}
+use Rattle.codec.specs.Refusals.{is-numbered}
 use Rattle.codec.specs.NumberLaws.{areBytes, Stands, stands-join}
 use Rattle.codec.specs.Operations.{operationAt, operationBytes}
 use Rattle.codec.specs.declared.operation.Operation.{Operation}
@@ -24,7 +25,7 @@ use Rattle.codec.specs.declared.operation.Operation.the-variants as op
 use Rattle.codec.specs.declared.operation.Decoded.{Decoded}
 use Rattle.codec.specs.declared.operation.Decoded.the-variants as decoded
 use Rattle.codec.specs.declared.refusal.Refusal.{Refusal}
-use Rattle.codec.specs.declared.refusal.Refusal.the-variants.{OutOfRange, LoopRegister}
+use Rattle.codec.specs.declared.refusal.Refusal.the-variants.{OutOfRange, Lengths, LoopRegister}
 use Rattle.engine.specs.Registers.{freshMachine, reg}
 use Rattle.engine.specs.Configure.{registerOf, checksFor, whyNot}
 use Rattle.engine.specs.Calculate.{World}
@@ -114,17 +115,17 @@ sheet-runs vl s memory p os at m loop cs t f r l =
 module _ (vl : ℕ) (s memory : List ℕ) (p : areBytes s) where
   -- a right answer is the run's
   only : (r : Progress) → Right vl s memory r → r ≡ run vl s memory
-  only r (Right.lengths n e) = e ∙ sym (run-lengths freshMachine vl s memory (fails _ (fits-allowed vl (length memory)) n))
+  only r (Right.lengths n x k e) = e ∙ ap (λ y. refusedAt (world freshMachine memory) y 0) (is-numbered x 15 k) ∙ sym (run-lengths freshMachine vl s memory (fails _ (fits-allowed vl (length memory)) n))
   only r (Right.over f os m t e) = e ∙ sym (answered s p os (length s) m t vl memory over f (over-from s p os (length s) m t refl))
   only r (Right.unread f os at m x t h u e) = e ∙ sym (answered s p os at m t vl memory (refused x at) f (unread-from s p os at m t x h u))
   only r (Right.refused f os at m o to x t w c e) = e ∙ sym (answered s p os at m t vl memory (refused x at) f (refused-from s p os at m t o to x w c))
   only r (Right.broken f os at m loop count from cs place x t w b h u e) =
       e
       ∙ sym (answered s p os at m t vl memory (refused x place) f (run-from s p os at m t loop count from (broken x place) w (body-broken s count from cs place x p b h u)))
-  only r (Right.trailing f os at m loop cs to t w h e) =
-      e ∙ sym (answered s p os at m t vl memory (refused OutOfRange to) f (trailing-from s p os at m t loop cs to w h))
-  only r (Right.no-loop f os at m loop cs t w n e) =
-      e ∙ sym (answered s p os at m t vl memory (refused LoopRegister at) f (last-from s p os at m t loop cs false w (fails _ (loops-on loop cs m) n)))
+  only r (Right.trailing f os at m loop cs to x t w h k e) =
+      e ∙ ap (λ y. refusedAt (world m memory) y to) (is-numbered x 2 k) ∙ sym (answered s p os at m t vl memory (refused OutOfRange to) f (trailing-from s p os at m t loop cs to w h))
+  only r (Right.no-loop f os at m loop cs x t w n k e) =
+      e ∙ ap (λ y. refusedAt (world m memory) y at) (is-numbered x 16 k) ∙ sym (answered s p os at m t vl memory (refused LoopRegister at) f (last-from s p os at m t loop cs false w (fails _ (loops-on loop cs m) n)))
   only r (Right.ran f os at m loop cs t w l h) =
       let k = sheet-runs vl s memory p os at m loop cs t f w l in
       ran-one vl loop cs (world m memory) (k .running) (k .some) r (execute vl loop cs (world m memory)) h
@@ -143,7 +144,7 @@ module _ (vl : ℕ) (s memory : List ℕ) (p : areBytes s) where
         loops : (e : to ≡ length s) (b : Bool) → isLoopRegister loop cs m ≡ b → Right vl s memory (run vl s memory)
         loops e false q =
             let v : RunAt s at loop cs (length s) = subst (RunAt s at loop cs) e w in
-            Right.no-loop f os at m loop cs t v (λ l. never (sym q ∙ loops-on loop cs m .1 l))
+            Right.no-loop f os at m loop cs LoopRegister t v (λ l. never (sym q ∙ loops-on loop cs m .1 l)) refl
             (answered s p os at m t vl memory (refused LoopRegister at) f (last-from s p os at m t loop cs false v q))
         loops e true q =
             let v : RunAt s at loop cs (length s) = subst (RunAt s at loop cs) e w in
@@ -155,7 +156,7 @@ module _ (vl : ℕ) (s memory : List ℕ) (p : areBytes s) where
         trails : (b : Bool) → ltb to (length s) ≡ b → Right vl s memory (run vl s memory)
         trails true e =
             let k : to < length s = ltb-true to (length s) e in
-            Right.trailing f os at m loop cs to t w k
+            Right.trailing f os at m loop cs to OutOfRange t w k refl
             (answered s p os at m t vl memory (refused OutOfRange to) f (trailing-from s p os at m t loop cs to w k))
         trails false e = loops (omega (arith, ltb-false to (length s) e)) (isLoopRegister loop cs m) refl
 
@@ -221,7 +222,7 @@ module _ (vl : ℕ) (s memory : List ℕ) (p : areBytes s) where
   right = go (allowed vl (length memory)) refl
     where
       go : (b : Bool) → allowed vl (length memory) ≡ b → Right vl s memory (run vl s memory)
-      go false e = Right.lengths (λ f. never (sym e ∙ fits-allowed vl (length memory) .1 f)) (run-lengths freshMachine vl s memory e)
+      go false e = Right.lengths (λ f. never (sym e ∙ fits-allowed vl (length memory) .1 f)) Lengths refl (run-lengths freshMachine vl s memory e)
       go true e = right-from (length s) (fits-allowed vl (length memory) .0 e) [] 0 freshMachine (refl, refl) (omega arith) (omega arith)
 
 -- a refusal is not done
@@ -235,15 +236,15 @@ run-bytes free loop n = refl
 
 -- a right answer that is done is that of a sheet of encodings
 encoded : (vl : ℕ) (s memory : List ℕ) (r : Progress) → Right vl s memory r → r .verdict ≡ Done → Encoded s
-encoded vl s memory r (Right.lengths n e) v = not-done r _ _ _ v e
+encoded vl s memory r (Right.lengths n x k e) v = not-done r _ _ _ v e
 encoded vl s memory r (Right.over f os m t e) v =
     let b = turns-bytes s 0 freshMachine os (length s) m (omega arith) t in
     Encoded.over (b .0) os m t (stands-all s _ (b .1))
 encoded vl s memory r (Right.unread f os at m x t h u e) v = not-done r _ _ _ v e
 encoded vl s memory r (Right.refused f os at m o to x t w c e) v = not-done r _ _ _ v e
 encoded vl s memory r (Right.broken f os at m loop count from cs place x t w b h u e) v = not-done r _ _ _ v e
-encoded vl s memory r (Right.trailing f os at m loop cs to t w h e) v = not-done r _ _ _ v e
-encoded vl s memory r (Right.no-loop f os at m loop cs t w n e) v = not-done r _ _ _ v e
+encoded vl s memory r (Right.trailing f os at m loop cs to x t w h k e) v = not-done r _ _ _ v e
+encoded vl s memory r (Right.no-loop f os at m loop cs x t w n k e) v = not-done r _ _ _ v e
 encoded vl s memory r (Right.ran f os at m loop cs t w l h) v =
     let b = turns-bytes s 0 freshMachine os at m (omega arith) t in
     let k : Stands s at (operationBytes 0 (op.Run loop (length cs))) (w .from) = subst (λ l. Stands s at l (w .from)) (run-bytes (w .written .free) loop (length cs)) (w .written .stands) in

@@ -5,6 +5,7 @@
 --   come-moved, come-holding, come-moved-holding   after a move; after other lanes
 --   split                         the first elements to come, and those to come after them
 --   next-front, next-lanes, next-within, next-some   the next chunk: the front of what is to come, at most the lanes, within the stream, not empty
+--   stays                         an open stream that moves on by nothing is as it was
 --   IsStream, stream-moved        a stream that was ended
 --   open-some, none-shut, shut-finished, finished-exactly, finished-all   open where some are to come, finished where none are
 use Prim.Native.Nat.{ℕ, _+_, _-_, _/_, _≤_, _<_}
@@ -18,12 +19,12 @@ use lib.ListN.{length, take, drop, length-take, length-drop, take-append-drop, d
 use lib.Seq.{drop-drop}
 use lib.Pow.{pow-pos}
 use lib.Dec.{leb}
-use borrow.Author.Tests.{leb-true}
+use borrow.Author.Tests.{leb-true, lt-leb}
 use Rattle.engine.specs.Loops.{sizeAt, elements}
 use Rattle.engine.specs.Chunks.{groupsOf, chunk}
 use Rattle.engine.specs.ChunkLaws.{Covered, covered, groups-join, chunk-lanes, chunk-some, chunk-elements}
 use Rattle.engine.specs.Memory.{holding}
-use Rattle.engine.specs.Registers.{isOpen, isFinished, shapeOf, toCome, nextChunk, movedBy}
+use Rattle.engine.specs.Registers.{isOpen, isFinished, shapeOf, toCome, nextChunk, stateAfter, standing, movedTo, movedBy}
 use Rattle.engine.specs.Good.{IsWidth, Good}
 use Rattle.engine.specs.GoodLaws.{width-most}
 use Rattle.engine.specs.declared.register.State.{State}
@@ -144,6 +145,15 @@ none-shut vl r g h = go (isOpen (r .state)) refl
     go : (b : Bool) → isOpen (r .state) ≡ b → b ≡ false
     go false e = refl
     go true e = absurd (omega (arith, open-some vl r g e))
+
+-- "with n = 0 nothing moves": an open stream that moves on by nothing is as it was
+pub stays : (vl : ℕ) (r : Register) → Good vl r → r .state ≡ Open → movedBy 0 r ≡ r
+unfolding movedBy
+stays vl r g e =
+    let o = g .opened (ap isOpen e) in
+    let z : r .moved + 0 ≡ r .moved = omega arith in
+    let state : stateAfter (shapeOf r) (r .moved) ≡ r .state = ap (λ b. cond b Finished Open) (lt-leb (length (elements (shapeOf r))) (r .moved) (o .1)) ∙ sym e in
+    ap (λ n. movedTo n r) z ∙ (λ i. standing (state i) (r .moved) (sym (o .0 .index) i) (sym (o .0 .height) i) r)
 
 -- it is finished exactly when nothing is to come
 pub finished-exactly : (vl : ℕ) (r : Register) → Good vl r → IsStream r → (isFinished (r .state) ≡ true) ↔ (toCome r ≡ [])

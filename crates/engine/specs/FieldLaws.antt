@@ -16,6 +16,7 @@ use lib.Seq.{length-take-le, drop-drop}
 use lib.Dec.{leb, eqb}
 use lib.IntN.{natAbs}
 use borrow.Author.Tests.{eqb-true, eq-eqb}
+use Rattle.codec.specs.Refusals.{is-numbered}
 use Rattle.codec.specs.Numbers.{numberAt, signedOf}
 use Rattle.codec.specs.NumberLaws.{areBytes, Stands, number-below, number-written, number-read}
 use Rattle.codec.specs.Operations.{field, isRegister, isReach, isSecond}
@@ -109,9 +110,9 @@ module _ {A : Type 0} (refused : Refusal → A) (s : List ℕ) (p : areBytes s) 
   pub reads-fault : (x : Refusal) (at : ℕ) (before : List ℕ) (fs : List Range) → AtFault s x at before fs → reads refused s at before fs end ≡ refused x
   unfolding reads AtFault
   reads-fault x at before [] h = absurd h
-  reads-fault x at before (f ∷ fs) (Fault.unread e h) = rw (no-number s at p .1 h, e)
+  reads-fault x at before (f ∷ fs) (Fault.unread e h) = rw (no-number s at p .1 h, is-numbered x 1 e)
   reads-fault x at before (f ∷ fs) (Fault.beyond n to e h k) =
-      rw (number-there s at n to h, fails (holds f before n) (holds-plain f before n) k, e)
+      rw (number-there s at n to h, fails (holds f before n) (holds-plain f before n) k, is-numbered x 2 e)
   reads-fault x at before (f ∷ fs) (Fault.later n to h k l) =
       next-there at n to before f (λ n to. reads refused s to (n ∷ before) fs end) h k ∙ reads-fault x to (n ∷ before) fs l
 

@@ -22,6 +22,7 @@ use lib.IntN.{pos, natAbs}
 use lib.Signed.{_≤ℤ_}
 use Rattle.codec.specs.Numbers.{numberBytes, signedOf}
 use Rattle.codec.specs.NumberLaws.{Stands}
+use Rattle.codec.specs.Refusals.{numberOf}
 use Rattle.codec.specs.Headers.{bitsOf}
 use Rattle.codec.specs.HeaderLaws.{isFree}
 use Rattle.codec.specs.Operations.{operationBytes, calculationBytes, actionCode}
@@ -32,7 +33,6 @@ use Rattle.codec.specs.declared.operation.Operation.{Operation}
 use Rattle.codec.specs.declared.operation.Operation.the-variants as op
 use Rattle.codec.specs.declared.operation.Calculation.{Calculation}
 use Rattle.codec.specs.declared.refusal.Refusal.{Refusal}
-use Rattle.codec.specs.declared.refusal.Refusal.the-variants.{BadNumber, OutOfRange, FixedBits, NotCarried, Lengths, LoopRegister}
 use Rattle.engine.specs.Registers.{freshMachine, reg, put}
 use Rattle.engine.specs.Configure.{registerOf, checksFor, applied, whyNot, configured}
 use Rattle.engine.specs.Calculate.{World, refusalOf}
@@ -98,8 +98,8 @@ calculationFields = upTo 7 ∷ upTo 31 ∷ upTo 31 ∷ source ∷ []
 
 -- "Each number is read, then checked for range, before the next": the fault is in this number, 1 or 2, or in a later one
 pub data Fault (s : List ℕ) (x : Refusal) (at : ℕ) (before : List ℕ) (f : Range) (Later : ℕ → ℕ → Type 0) : Type 0 where
-  unread : x ≡ BadNumber → NoNumberAt s at → Fault s x at before f Later
-  beyond : (n to : ℕ) → x ≡ OutOfRange → NumberAt s at n to → ¬ Holds f before n → Fault s x at before f Later
+  unread : numberOf x ≡ 1 → NoNumberAt s at → Fault s x at before f Later
+  beyond : (n to : ℕ) → numberOf x ≡ 2 → NumberAt s at n to → ¬ Holds f before n → Fault s x at before f Later
   later : (n to : ℕ) → NumberAt s at n to → Holds f before n → Later n to → Fault s x at before f Later
 
 unfoldable pub AtFault : List ℕ → Refusal → ℕ → List ℕ → List Range → Type 0
@@ -122,8 +122,8 @@ pub record NoneCarried (w : ℕ) : Type 0 where
 
 -- 3, then 4
 pub data WordFault (w : ℕ) (x : Refusal) : Type 0 where
-  fixed : x ≡ FixedBits → ¬ FixedRight w → WordFault w x
-  carried : x ≡ NotCarried → FixedRight w → ¬ NoneCarried w → WordFault w x
+  fixed : numberOf x ≡ 3 → ¬ FixedRight w → WordFault w x
+  carried : numberOf x ≡ 4 → FixedRight w → ¬ NoneCarried w → WordFault w x
 
 -- an operation that cannot be read: its kind, one of its numbers, or its header word once both its numbers are read
 pub data Unread (s : List ℕ) (at : ℕ) (x : Refusal) : Type 0 where
@@ -217,7 +217,7 @@ Before s os at m = Turns s 0 freshMachine os at m
 -- the right answers of a sheet, case by case
 pub data Right (vl : ℕ) (s memory : List ℕ) (r : Progress) : Type 0 where
   -- "15 comes first", place 0
-  lengths : ¬ Fits vl (length memory) → r ≡ refusedAt (world freshMachine memory) Lengths 0 → Right vl s memory r
+  lengths : ¬ Fits vl (length memory) → (x : Refusal) → numberOf x ≡ 15 → r ≡ refusedAt (world freshMachine memory) x 0 → Right vl s memory r
   -- no byte is left, and no run
   over : Fits vl (length memory) → (os : List Operation) (m : Machine) → Before s os (length s) m → r ≡ begun (world m memory)
       → Right vl s memory r
@@ -232,11 +232,11 @@ pub data Right (vl : ℕ) (s memory : List ℕ) (r : Progress) : Type 0 where
       → Before s os at m → Written s at (op.Run loop count) from → BodyAt s from cs place → length cs < count → UnreadCalculation s place x
       → r ≡ refusedAt (world m memory) x place → Right vl s memory r
   -- bytes after it
-  trailing : Fits vl (length memory) → (os : List Operation) (at : ℕ) (m : Machine) (loop : ℕ) (cs : List Placed) (to : ℕ) → Before s os at m
-      → RunAt s at loop cs to → to < length s → r ≡ refusedAt (world m memory) OutOfRange to → Right vl s memory r
+  trailing : Fits vl (length memory) → (os : List Operation) (at : ℕ) (m : Machine) (loop : ℕ) (cs : List Placed) (to : ℕ) (x : Refusal) → Before s os at m
+      → RunAt s at loop cs to → to < length s → numberOf x ≡ 2 → r ≡ refusedAt (world m memory) x to → Right vl s memory r
   -- 16
-  no-loop : Fits vl (length memory) → (os : List Operation) (at : ℕ) (m : Machine) (loop : ℕ) (cs : List Placed) → Before s os at m
-      → RunAt s at loop cs (length s) → ¬ LoopsOn loop cs m → r ≡ refusedAt (world m memory) LoopRegister at → Right vl s memory r
+  no-loop : Fits vl (length memory) → (os : List Operation) (at : ℕ) (m : Machine) (loop : ℕ) (cs : List Placed) (x : Refusal) → Before s os at m
+      → RunAt s at loop cs (length s) → ¬ LoopsOn loop cs m → numberOf x ≡ 16 → r ≡ refusedAt (world m memory) x at → Right vl s memory r
   -- a run
   ran : Fits vl (length memory) → (os : List Operation) (at : ℕ) (m : Machine) (loop : ℕ) (cs : List Placed) → Before s os at m
       → RunAt s at loop cs (length s) → LoopsOn loop cs m → Ran vl loop cs (world m memory) r → Right vl s memory r

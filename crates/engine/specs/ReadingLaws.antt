@@ -17,6 +17,7 @@ use lib.ListN.{getD, take, drop}
 use lib.Dec.{leb, eqb}
 use lib.IntN.{ℤ, natAbs}
 use borrow.Author.Tests.{lt-leb, eqb-true, eqb-false, eq-eqb, ne-eqb, not-true}
+use Rattle.codec.specs.Refusals.{numberOf, is-numbered}
 use Rattle.codec.specs.Numbers.{numberAt, signedOf, asSigned}
 use Rattle.codec.specs.NumberLaws.{areBytes}
 use Rattle.codec.specs.Headers.{bitsOf, fixedBits, carriedBits, headerSaid, headerOf, couplingInRange}
@@ -82,12 +83,12 @@ word-plain w x = (λ e. there (fixedBits w) (carriedBits w) refl refl e, back)
     there : (f c : Bool) → fixedBits w ≡ f → carriedBits w ≡ c → cond f (cond c (word.Said (headerSaid w)) (word.Refused NotCarried)) (word.Refused FixedBits) ≡ word.Refused x
         → WordFault w x
     there true true a b e = absurd (let z : _≡_ {A = ℕ} 0 1 = cc in omega arith)
-    there true false a b e = WordFault.carried (cc) (fixed-plain w .0 a) (λ h. never (sym b ∙ carried-plain w .1 h))
-    there false c a b e = WordFault.fixed (cc) (λ h. never (sym a ∙ fixed-plain w .1 h))
+    there true false a b e = WordFault.carried (let q : x ≡ NotCarried = cc in ap numberOf q) (fixed-plain w .0 a) (λ h. never (sym b ∙ carried-plain w .1 h))
+    there false c a b e = WordFault.fixed (let q : x ≡ FixedBits = cc in ap numberOf q) (λ h. never (sym a ∙ fixed-plain w .1 h))
 
     back : WordFault w x → cond (fixedBits w) (cond (carriedBits w) (word.Said (headerSaid w)) (word.Refused NotCarried)) (word.Refused FixedBits) ≡ word.Refused x
-    back (WordFault.fixed e n) = rw (fails (fixedBits w) (fixed-plain w) n, e)
-    back (WordFault.carried e f n) = rw (fixed-plain w .1 f, fails (carriedBits w) (carried-plain w) n, e)
+    back (WordFault.fixed e n) = rw (fails (fixedBits w) (fixed-plain w) n, is-numbered x 3 e)
+    back (WordFault.carried e f n) = rw (fixed-plain w .1 f, fails (carriedBits w) (carried-plain w) n, is-numbered x 4 e)
 
 -- ---- operations
 
