@@ -1,12 +1,10 @@
 -- `number_bytes` is safe and ends.
-use native.Mathlib.Omega.{arith}
-use Prim.Native.Nat.{_-_}
-use mathlib.Core.Path.{_≡_, refl}
-use lib.ListN.{length, length-set}
 use borrow.Author.Needs.{needs}
+use Prim.Native.Nat.{_-_}
+use mathlib.Core.Path.{_≡_}
+use lib.ListN.{length}
 use Rattle.bench.proofs.number_bytes.Statement.{statement}
 use Rattle.bench.proofs.number_bytes.Tie as tie
-use Rattle.bench.proofs.low.Reads as low-reads
 
 abbrev Inv-loop : tie.InvT-loop
 Inv-loop memory₀ k₀ memory k = length memory ≡ length memory₀
@@ -15,22 +13,22 @@ abbrev μ-loop : tie.MeasureT-loop
 μ-loop memory₀ k₀ memory k = length memory₀ - k
 
 loop-holds : tie.Need-loop-holds Inv-loop μ-loop
-loop-holds c = refl
+loop-holds c = search needs
 
-low-requires : tie.Need-low-requires Inv-loop μ-loop
-low-requires c κs = omega arith
+numbered-requires : tie.Need-numbered-requires Inv-loop μ-loop
+numbered-requires c κs = search needs
 
 slice-write-memory : tie.Need-slice-write-memory Inv-loop μ-loop
-slice-write-memory c = omega arith
+slice-write-memory c = search needs
 
 add-k : tie.Need-add-k Inv-loop μ-loop
-add-k c = omega arith
+add-k c = search needs
 
 loop-less : tie.Need-loop-less Inv-loop μ-loop
-loop-less c = omega arith
+loop-less c = search needs
 
 loop-again : tie.Need-loop-again Inv-loop μ-loop
-loop-again c = search (needs, length-set)
+loop-again c = search needs
 
 same-length : tie.Need-same-length Inv-loop μ-loop
 same-length c = search needs
@@ -45,7 +43,7 @@ number-bytes-spec =
     Inv-loop
     μ-loop
     loop-holds
-    low-requires
+    numbered-requires
     slice-write-memory
     add-k
     loop-less
