@@ -1,0 +1,5 @@
+pub mod Fields
+pub mod Nests
+pub mod NestRules
+pub mod Reading
+pub mod Translation
