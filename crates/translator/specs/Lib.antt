@@ -6,3 +6,6 @@ pub mod NestSheets
 pub mod Translation
 pub mod Acceptance
 pub mod Promise3
+pub mod Examples
+pub mod RefusedNests
+pub mod NestRuns

@@ -30,7 +30,6 @@ use Rattle.engine.specs.declared.stream.Shape.{Shape}
 use Rattle.engine.specs.declared.stream.Pattern.{Pattern}
 use Rattle.translator.specs.Fields.{termOf}
 use Rattle.translator.specs.Nests.{couplingOf}
-use Rattle.translator.specs.Reading.{nest}
 use Rattle.translator.specs.declared.nest.Access.{Access}
 use Rattle.translator.specs.declared.nest.Nest.{Nest}
 

@@ -7,7 +7,7 @@
 --   Chunks, NoneReadInChunk      the weaker one, of the same chunk
 --   Visits                       what the visits are
 --   Translating                  the room
---   Promise3, Promised
+--   Promise3, Promised           demand 3; with the acceptance, the visits and the room
 use Prim.Native.Nat.{ℕ, suc, _+_, _/_, _≤_, _<_}
 use mathlib.Core.Path.{_≡_}
 use mathlib.Core.Logic.{_⊎_, _↔_}
@@ -15,6 +15,7 @@ use mathlib.Core.List.{List, [], _∷_}
 use lib.ListN.{length, getD, take, drop}
 use lib.IntN.{ℤ, pos, _+ℤ_}
 use lib.Signed.{_≤ℤ_}
+use Rattle.codec.specs.NumberLaws.{areBytes}
 use Rattle.engine.specs.Chunks.{chunkOf}
 use Rattle.engine.specs.Sheets.{run}
 use Rattle.engine.specs.Allowed.{Fits, Lies}
@@ -24,7 +25,7 @@ use Rattle.translator.specs.Nests.{countAt, visits, widthOf, placeOf, pl
 use Rattle.translator.specs.Reading.{nest, nestBytes}
 use Rattle.translator.specs.NestSheets.{sheetOf}
 use Rattle.translator.specs.Translation.{translated, roomAfter, runNest, sheet, refusal, asTranslated}
-use Rattle.translator.specs.Acceptance.{Accepted}
+use Rattle.translator.specs.Acceptance.{Accepted, Nesting}
 use Rattle.translator.specs.declared.nest.Nest.{Nest}
 use Rattle.translator.specs.declared.nest.Stage.the-variants as stage
 
@@ -104,6 +105,10 @@ pub record Promise3 (m : Nest) (vl : ℕ) (memory : List ℕ) : Type 0 where
   pub chunkwise : AllInside m (length memory) → NoneReadInChunk m (vl / widthOf m)
       → run vl (sheetOf m) memory .world .memory ≡ plainLoop m memory
 
--- every accepted nest, vector length and memory
-abbrev pub Promised : Type 0
-Promised = (m : Nest) (vl : ℕ) (memory : List ℕ) → Accepted m → Fits vl (length memory) → Promise3 m vl memory
+-- ---- all of it
+
+pub record Promised : Type 0 where
+  pub nesting : (s : List ℕ) → areBytes s → Nesting s
+  pub translating : (m : Nest) (room : List ℕ) → Accepted m → Translating m room
+  pub visiting : (m : Nest) → Visits m
+  pub plain : (m : Nest) (vl : ℕ) (memory : List ℕ) → Accepted m → Fits vl (length memory) → Promise3 m vl memory

@@ -3,7 +3,7 @@
 --   translated, roomAfter                translating: the answer, and the room after it
 --   Outcome, runNest, outcomeOf          translating and running
 --   Answered, asTranslated, asOutcome    answers by 01's numbers
-use Prim.Native.Nat.{ℕ, suc}
+use Prim.Native.Nat.{ℕ}
 use mathlib.Core.List.{List}
 use mathlib.Core.Bool.{cond}
 use lib.ListN.{length}
