@@ -4,6 +4,7 @@
 --   sheets                            01's nest and its 42 bytes, 17
 --   threeLoops                        three loops with three terms: read, written, its visits, places, highs, modifiers, operations
 --   chunks                            a triangle, coupled or not, and its chunks
+--   threeStreams                      the streams of the sheet of three loops
 use Prim.Native.Nat.{ℕ, zero, suc, _+_}
 use mathlib.Core.Path.{_≡_, refl}
 use mathlib.Core.List.{List, [], _∷_, _++_, map}
@@ -21,17 +22,22 @@ use Rattle.codec.specs.declared.operation.Behaviour.the-variants as behaviour
 use Rattle.codec.specs.declared.operation.Parameter.the-variants as parameter
 use Rattle.codec.specs.declared.operation.Operation.{Operation}
 use Rattle.codec.specs.declared.operation.Operation.the-variants as op
-use Rattle.engine.specs.Loops.{span, loops}
+use Rattle.engine.specs.Loops.{sizeAt, added, span, loops, elements}
 use Rattle.engine.specs.Chunks.{passes, withElements, groups, leftAfter, chunkOf}
-use Rattle.engine.specs.Rules.{product}
+use Rattle.engine.specs.Rules.{only, highs, product}
+use Rattle.engine.specs.Rules
+use Rattle.engine.specs.Addresses.{addressUpTo, address}
 use Rattle.engine.specs.Checks.{firstOf}
+use Rattle.engine.specs.ShapeCheck.{some, checkShape}
+use Rattle.engine.specs.Given.{patternOf, ended, givenFrom, givenFor}
+use Rattle.engine.specs.declared.check.Why.the-variants.{Nothing}
 use Rattle.engine.specs.declared.stream.Modifier.{Modifier}
 use Rattle.translator.specs.Fields.{termFields, loopFields, strideFields}
 use Rattle.translator.specs.Nests.{termsAt, countAt, visits, placeUpTo, placeOf, visitGroups}
 use Rattle.translator.specs.NestRules.{nonzeroFor, nonzeroFrom, total, highsFrom, lowOrHighFrom, highsOf}
 use Rattle.translator.specs.Reading.{Nested, nest, refused, nestAt, numbersBytes, nestBytes}
 use Rattle.translator.specs.Reading
-use Rattle.translator.specs.NestSheets.{modifiersAt, modifiersFrom, modifiersOf, dimensionOps, sheetOps, bytesOfAll, sheetOf}
+use Rattle.translator.specs.NestSheets.{modifiersAt, modifiersFrom, modifiersOf, dimensionsFrom, streamOf, shapeOf, patternFor, dimensionOps, sheetOps, bytesOfAll, sheetOf}
 use Rattle.translator.specs.Translation.{translated, roomAfter, Answered, sheet, refusal, asTranslated}
 use Rattle.translator.specs.declared.nest.Nest.{Nest}
 
@@ -211,3 +217,19 @@ unfolding numberAt groupsAt signedOf termFields loopFields strideFields Reading.
     termsAt countAt span loops visits passes withElements groups leftAfter chunkOf
     triangleBytes three chunkLengths chunksFor visitsFor
 chunks = (refl, refl, refl, refl, refl)
+
+-- ---- the streams of the sheet of three loops
+
+-- what its operations give for each register; the descriptors that this comes to; their elements are the visits
+pub threeStreams :
+    (givenFor 1 (sheetOps three) ≡ ended (streamOf three 1 Load (three .first)))
+    × (givenFor 2 (sheetOps three) ≡ ended (streamOf three 2 Load (three .second)))
+    × (givenFor 3 (sheetOps three) ≡ ended (streamOf three 3 Store (three .destination)))
+    × (patternOf (streamOf three 1 Load (three .first)) ≡ patternFor three (three .first))
+    × (patternOf (streamOf three 3 Store (three .destination)) ≡ patternFor three (three .destination))
+    × (checkShape (shapeOf three) ≡ Nothing)
+    × (elements (shapeOf three) ≡ visits three)
+    × (map (address (patternFor three (three .second)) 2) (visits three) ≡ map (placeOf three (three .second)) (visits three))
+unfolding givenFrom modifiersAt modifiersFrom dimensionsFrom dimensionOps three checkShape firstOf some
+    sizeAt added span loops elements only highs Rules.lowOrHighFrom product addressUpTo termsAt countAt visits placeUpTo
+threeStreams = (refl, refl, refl, refl, refl, refl, refl, refl)
