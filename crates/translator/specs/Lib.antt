@@ -1,0 +1,11 @@
+pub mod Fields
+pub mod Nests
+pub mod NestRules
+pub mod Reading
+pub mod NestSheets
+pub mod Translation
+pub mod Acceptance
+pub mod Promise3
+pub mod Examples
+pub mod RefusedNests
+pub mod NestRuns

@@ -1,0 +1,2 @@
+// The translator: loop nests, read, checked and written as sheets.
+pub mod nest;
