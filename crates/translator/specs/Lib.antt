@@ -6,6 +6,8 @@ pub mod NestSheets
 pub mod Translation
 pub mod Acceptance
 pub mod Promise3
+pub mod DescriptorLaws
+pub mod PlainLaws
 pub mod Examples
 pub mod RefusedNests
 pub mod NestRuns
