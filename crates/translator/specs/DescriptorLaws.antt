@@ -1,6 +1,7 @@
 -- A nest's own counts, visits and places are those of the descriptors that its sheet gives.
 --
 --   given-all                  the modifiers of the shape are those of the nest
+--   couples                    the coupled loop is one of the dimensions
 --   at-target, at-others       what the modifiers of one dimension add to a loop's count
 --   count-size                 a loop's count is its dimension's size
 --   loops-same, groups-same    loops and groups at the same sizes
@@ -17,7 +18,7 @@ use lib.ListN.{length, getD, take, drop, replicate, getD-replicate}
 use lib.Seq.{take-append-seam, drop-drop, getD-drop}
 use lib.Dec.{eqb}
 use lib.IntN.{ℤ, pos, negsuc, negℤ, natAbs, _+ℤ_, _*ℤ_, +ℤ-assoc, +ℤ-idl, +ℤ-idr, zero-*ℤ}
-use borrow.Author.Tests.{eqb-true, eq-eqb, ne-eqb}
+use borrow.Author.Tests.{eqb-true, eq-eqb, ne-eqb, le-ltb}
 use Rattle.codec.specs.declared.header.Coupling.{Coupling}
 use Rattle.codec.specs.declared.header.Coupling.the-variants.{Uncoupled, Coupled}
 use Rattle.codec.specs.declared.operation.Parameter.{Parameter}
@@ -29,7 +30,9 @@ use Rattle.engine.specs.Members.{Each}
 use Rattle.engine.specs.Chunks.{passes, withElements, groups, chunk, chunkOf}
 use Rattle.engine.specs.ChunkLaws.{Covered}
 use Rattle.engine.specs.Addresses.{noBytes, noElements, inBytes, addressUpTo, address}
+use Rattle.engine.specs.Configure.{uncovered}
 use Rattle.engine.specs.declared.stream.Modifier.{Modifier}
+use Rattle.engine.specs.declared.stream.Shape.{Shape}
 use Rattle.translator.specs.Fields.{termOf}
 use Rattle.translator.specs.Nests.{termsAt, countAt, visits, widthOf, placeUpTo, placeOf, couplingOf, visitGroups}
 use Rattle.translator.specs.NestSheets.{behaviourOf, modifierOf, modifiersAt, modifiersFrom, modifiersOf, shapeOf, patternFor}
@@ -39,6 +42,11 @@ use Rattle.translator.specs.declared.nest.Nest.{Nest}
 -- the modifiers of the shape are those of the nest
 pub given-all : (m : Nest) → Loops.modifiersOf (shapeOf m) ≡ modifiersOf m
 given-all m = take-append-seam (modifiersOf m) _
+
+-- the coupled loop is one of the dimensions
+pub couples : (s : Shape) (c : ℕ) → c ≤ s .dims → uncovered s (couplingOf c) ≡ false
+couples s zero h = refl
+couples s (suc c) h = le-ltb (s .dims) (suc c) h
 
 -- ---- counts
 

@@ -8,6 +8,8 @@ pub mod Acceptance
 pub mod Promise3
 pub mod DescriptorLaws
 pub mod PlainLaws
+pub mod GivingLaws
+pub mod NestStreams
 pub mod Examples
 pub mod RefusedNests
 pub mod NestRuns

@@ -5,7 +5,6 @@
 --   free, value-sets               elements that share no byte; a value apart from what was written
 --   one-chunk                      one chunk
 --   plain-append, chunks-plain     visits in two parts; chunks in order
---   couples                        the coupled loop is one of the loops
 --   chunks-nest, chunks-join       the chunks of the streams are those of the visits; joined, they are the visits
 --   none-in-chunk                  if no visit reads what an earlier one wrote, none reads what one of its chunk wrote
 use Prim.Native.Nat.{ℕ, zero, suc, _+_, _-_, _*_, _≤_, _<_}
@@ -191,11 +190,6 @@ chunks-plain m few len (vs ∷ gs) memory i h =
     (one-chunk m few len vs memory (each-front [] vs (join gs) (Inside m len) i) (h 0 (omega arith)))
     ∙ chunks-plain m few len gs (plainOver m memory vs) (each-back [] vs (join gs) (Inside m len) i) (λ g l. h (suc g) (omega arith))
     ∙ sym (plain-append m vs (join gs) memory)
-
--- the coupled loop is one of the loops
-pub couples : (c loops : ℕ) → c ≤ loops → Covered loops (couplingOf c)
-couples zero loops h = tt
-couples (suc c) loops h = h
 
 module _ (m : Nest) (covers : Covered (m .loops) (couplingOf (m .coupled))) (lanes : ℕ) where
   -- the chunks of the streams are those of the visits
