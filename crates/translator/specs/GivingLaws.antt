@@ -3,6 +3,7 @@
 --   stands-apart, stands-whole   bytes that stand side by side; a list, in itself
 --   Offers, Gives                an operation that is not refused; operations that lead from what was given to what is given then
 --   gives-first, gives-append    one operation, then others; in two parts
+--   gives-bytes                  their bytes
 --   offers-accepts               an operation that is not refused is accepted
 --   Turned, gives-turned         they are done in turn; their register has what they give, every other what it had
 --   turns-append                 turns behind turns
@@ -29,6 +30,7 @@ use Rattle.engine.specs.Promise1.{Configures, InRange, Written, after, Turns}
 use Rattle.engine.specs.declared.check.Why.the-variants.{Nothing}
 use Rattle.engine.specs.declared.register.Machine.{Machine}
 use Rattle.translator.specs.NestSheets.{bytesOfAll}
+use Rattle.translator.specs.ByteLaws.{Bytewise, bytes-none, bytes-append, operation-bytes}
 
 -- ---- bytes
 
@@ -81,6 +83,13 @@ pub gives-append : (i : ℕ) (g h k : Given) (os ps : List Operation) → Gives 
 unfolding Gives
 gives-append i g h k [] ps p q = subst (λ y. Gives i y ps k) (sym p) q
 gives-append i g h k (o ∷ os) ps p q = (p .0, gives-append i (givenBy i o g) h k os ps (p .1) q)
+
+-- their bytes
+pub gives-bytes : (i : ℕ) (g h : Given) (os : List Operation) → Gives i g os h → Bytewise (bytesOfAll os)
+unfolding Gives bytesOfAll
+gives-bytes i g h [] p = bytes-none
+gives-bytes i g h (o ∷ os) p =
+    bytes-append (operation-bytes o (p .0 .range)) (gives-bytes i (givenBy i o g) h os (p .1))
 
 -- an operation that is not refused, after what its register has, is accepted
 pub offers-accepts : (i : ℕ) (g : Given) (o : Operation) (m : Machine) → Offers i g o → Has g (reg m i) → Accepts o (reg m (registerOf o))

@@ -8,6 +8,7 @@ pub mod Acceptance
 pub mod Promise3
 pub mod DescriptorLaws
 pub mod PlainLaws
+pub mod ByteLaws
 pub mod GivingLaws
 pub mod NestStreams
 pub mod Examples
