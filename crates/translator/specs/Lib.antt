@@ -1,10 +1,12 @@
 pub mod Fields
 pub mod Nests
 pub mod NestRules
+pub mod ModifierLaws
 pub mod Reading
 pub mod NestSheets
 pub mod Translation
 pub mod Acceptance
+pub mod RuleLaws
 pub mod Promise3
 pub mod Examples
 pub mod RefusedNests
