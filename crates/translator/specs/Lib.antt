@@ -1,4 +1,6 @@
 pub mod Fields
+pub mod FieldLists
+pub mod PlaceLaws
 pub mod Nests
 pub mod NestRules
 pub mod ModifierLaws
