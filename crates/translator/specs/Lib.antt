@@ -1,10 +1,14 @@
 pub mod Fields
+pub mod FieldLists
+pub mod PlaceLaws
 pub mod Nests
 pub mod NestRules
+pub mod ModifierLaws
 pub mod Reading
 pub mod NestSheets
 pub mod Translation
 pub mod Acceptance
+pub mod RuleLaws
 pub mod Promise3
 pub mod DescriptorLaws
 pub mod PlainLaws
