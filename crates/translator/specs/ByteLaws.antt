@@ -4,7 +4,7 @@
 --   number-bytes         a number
 --   operation-bytes, calculation-bytes   an operation; a calculation
 --   all-append           operations in two parts
-use Prim.Native.Nat.{ℕ, zero, suc, _+_, _*_, _%_, _/_, _^_, _≤_, _<_}
+use Prim.Native.Nat.{ℕ, zero, suc, _+_, _%_, _/_, _^_, _≤_, _<_}
 use mathlib.Core.Path.{_≡_, refl, sym, _∙_, ap}
 use mathlib.Core.List.{List, [], _∷_, _++_, append-assoc}
 use mathlib.Core.Bool.{Bool, true, false, cond}
@@ -13,14 +13,12 @@ use native.Mathlib.Nat.{pow-succ'}
 use lib.ListN.{getD}
 use lib.Dec.{ltb}
 use lib.IntN.{ℤ, pos, negsuc, natAbs}
-use borrow.Author.Tests.{ltb-true, ltb-false}
+use borrow.Author.Tests.{ltb-true}
 use Rattle.codec.specs.Numbers.{groupsOf, numberBytes, unsignedOf}
 use Rattle.codec.specs.NumberLaws.{areBytes}
 use Rattle.codec.specs.Headers.{headerInRange, wordOf}
 use Rattle.codec.specs.HeaderLaws.{both, free-none, word-below}
 use Rattle.codec.specs.Operations.{parameterCode, behaviourCode, actionCode, baseInRange, operationInRange, operationBytes, calculationBytes}
-use Rattle.codec.specs.declared.header.Header.{Header}
-use Rattle.codec.specs.declared.amounts.Bytes.{Bytes}
 use Rattle.codec.specs.declared.operation.Parameter.{Parameter}
 use Rattle.codec.specs.declared.operation.Parameter.the-variants as parameter
 use Rattle.codec.specs.declared.operation.Behaviour.{Behaviour}

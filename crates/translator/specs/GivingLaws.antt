@@ -7,7 +7,7 @@
 --   offers-accepts               an operation that is not refused is accepted
 --   Turned, gives-turned         they are done in turn; their register has what they give, every other what it had
 --   turns-append                 turns behind turns
-use Prim.Native.Nat.{ℕ, zero, suc, _+_, _-_, _≤_, _<_}
+use Prim.Native.Nat.{ℕ, _+_, _-_, _≤_, _<_}
 use mathlib.Core.Path.{_≡_, refl, sym, _∙_, ap, subst}
 use mathlib.Core.Logic.{_≢_}
 use mathlib.Core.List.{List, [], _∷_, _++_}
@@ -20,13 +20,13 @@ use Rattle.codec.specs.Operations.{operationBytes}
 use Rattle.codec.specs.declared.operation.Operation.{Operation}
 use Rattle.engine.specs.Checks.{firstOf}
 use Rattle.engine.specs.Registers.{reg}
-use Rattle.engine.specs.Configure.{registerOf, checksFor, applied, whyNot}
+use Rattle.engine.specs.Configure.{registerOf, applied, whyNot}
 use Rattle.engine.specs.Allowed.{Accepts}
 use Rattle.engine.specs.AllowedLaws.{accepts-clear}
 use Rattle.engine.specs.Given.{Given, givenBy}
 use Rattle.engine.specs.GivenLaws.{Has, after-has, other-given}
 use Rattle.engine.specs.Offered.{checksGiven, offered}
-use Rattle.engine.specs.Promise1.{Configures, InRange, Written, after, Turns}
+use Rattle.engine.specs.Promise1.{Configures, InRange, after, Turns}
 use Rattle.engine.specs.declared.check.Why.the-variants.{Nothing}
 use Rattle.engine.specs.declared.register.Machine.{Machine}
 use Rattle.translator.specs.NestSheets.{bytesOfAll}

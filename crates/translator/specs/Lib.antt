@@ -12,9 +12,12 @@ pub mod RuleLaws
 pub mod Promise3
 pub mod DescriptorLaws
 pub mod PlainLaws
+pub mod ChunkedLaws
 pub mod ByteLaws
 pub mod GivingLaws
+pub mod PatternLaws
 pub mod NestStreams
+pub mod StartLaws
 pub mod Examples
 pub mod RefusedNests
 pub mod NestRuns

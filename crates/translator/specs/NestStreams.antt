@@ -1,35 +1,27 @@
 -- The operations of a nest's sheet are accepted, stream by stream, and give the patterns of the nest.
 --
 --   at-gives, dimensions-give     the modifiers of a dimension; dimensions with their modifiers
---   pattern-same                  the pattern that they come to
---   Bounded                       what an end looks at, of the nest's shape
+--   Bounded, bounded              what an end looks at, of the nest's shape
 --   stream-gives                  a whole stream
 use Prim.Native.Nat.{ℕ, zero, suc, _+_, _-_, _≤_, _<_}
 use mathlib.Core.Path.{_≡_, refl, sym, _∙_, ap, subst}
 use mathlib.Core.List.{List, [], _∷_, _++_, map, append-assoc, append-nil}
 use mathlib.Core.Bool.{Bool, true, false, cond}
 use native.Mathlib.Omega.{arith}
-use native.Mathlib.Decide.{decLt}
-use lib.ListN.{length, getD, replicate, length-append, length-map, length-replicate, List·getD-append}
-use lib.Seq.{ext-getD}
+use lib.ListN.{length, length-append}
 use lib.Dec.{eqb, leb→le}
 use lib.IntN.{ℤ, pos, negsuc, natAbs}
 use lib.Signed.{_≤ℤ_}
 use borrow.Author.Tests.{eq-eqb, ne-eqb, lt-leb, le-ltb}
 use Rattle.codec.specs.declared.header.Kind.{Kind}
-use Rattle.codec.specs.declared.header.Coupling.{Coupling}
 use Rattle.codec.specs.declared.operation.Dimension.{Dimension}
-use Rattle.codec.specs.declared.operation.Operation.{Operation}
 use Rattle.codec.specs.declared.operation.Operation.the-variants as op
-use Rattle.engine.specs.Addresses.{noBytes, noElements}
 use Rattle.engine.specs.Rules.{lowOrHigh, highsOf, product}
-use Rattle.engine.specs.Registers.{noModifier}
-use Rattle.engine.specs.Members.{getD-past}
 use Rattle.engine.specs.GoodLaws.{more}
 use Rattle.engine.specs.CalculationLaws.{nothing}
 use Rattle.engine.specs.Configure.{uncovered}
 use Rattle.engine.specs.AllowedLaws.{neither}
-use Rattle.engine.specs.Given.{Stream, filled, patternOf, Given, none, going, ended, givenBy}
+use Rattle.engine.specs.Given.{Stream, patternOf, none, going, ended}
 use Rattle.engine.specs.GivenLaws.{plusDimension, plusModifier}
 use Rattle.engine.specs.Promise1.{CouplingInRange}
 use Rattle.engine.specs.declared.stream.Modifier.{Modifier}
@@ -37,8 +29,11 @@ use Rattle.engine.specs.declared.stream.Pattern.{Pattern}
 use Rattle.translator.specs.Fields.{termOf}
 use Rattle.translator.specs.Nests.{couplingOf}
 use Rattle.translator.specs.NestSheets.{modifierOf, modifiersAt, modifiersFrom, modifiersOf, headerFor, dimensionOf, dimensionsFrom, streamOf, shapeOf, patternFor, modifierOp, dimensionOps, streamOps}
-use Rattle.translator.specs.Acceptance.{AccessInRange, InRange, Tidy}
+use Rattle.translator.specs.Acceptance.{AccessInRange, InRange, Accepted}
+use Rattle.translator.specs.ModifierLaws.{modifiers-count}
+use Rattle.translator.specs.RuleLaws.{highs-same, low-high-same, low-high-kept}
 use Rattle.translator.specs.DescriptorLaws.{couples}
+use Rattle.translator.specs.PatternLaws.{dimensions-long, TidyAccess, pattern-same}
 use Rattle.translator.specs.GivingLaws.{Offers, Gives, gives-first, gives-append}
 use Rattle.translator.specs.declared.nest.Access.{Access}
 use Rattle.translator.specs.declared.nest.Nest.{Nest}
@@ -130,66 +125,6 @@ module _ (m : Nest) (range : InRange m) (i : ℕ) (low : i ≤ 31) where
         })
         (dimensions-give (suc d) n t (omega arith) long (omega (arith, length-append (s .modifiers) mine))))
 
--- ---- the pattern
-
--- an array of one value
-getD-same : {A : Type 0} (n k : ℕ) (z : A) → getD (replicate n z) k z ≡ z
-getD-same zero k z = refl
-getD-same (suc n) zero z = refl
-getD-same (suc n) (suc k) z = getD-same n k z
-
--- an array of seven that holds a list in front, and nothing behind
-filled-is : {A : Type 0} (z : A) (xs ys : List A) (n : ℕ) → length xs ≡ n → n ≤ 7 → length ys ≡ 7 → ((k : ℕ) → k < n → getD xs k z ≡ getD ys k z)
-    → ((k : ℕ) → n ≤ k → getD ys k z ≡ z) → filled 7 z xs ≡ ys
-filled-is z xs ys n e h l front behind =
-    ext-getD z (filled 7 z xs) ys
-    (omega (arith, length-append xs (replicate (7 - length xs) z), length-replicate (7 - length xs) z))
-    (λ k b. go k (decLt k n))
-  where
-    go : (k : ℕ) → Dec (k < n) → getD (filled 7 z xs) k z ≡ getD ys k z
-    go k (yes q) = List·getD-append xs (replicate (7 - length xs) z) z k (omega arith) ∙ front k q
-    go k (no q) = getD-past z xs (replicate (7 - length xs) z) k (omega arith) ∙ getD-same (7 - length xs) (k - length xs) z ∙ sym (behind k (omega arith))
-
-module _ (m : Nest) (i : ℕ) (a : Access) where
-  -- as many dimensions as there are loops
-  dimensions-long : (d n : ℕ) → length (dimensionsFrom m i a d n) ≡ n
-  unfolding dimensionsFrom
-  dimensions-long d zero = refl
-  dimensions-long d (suc n) = ap suc (dimensions-long (suc d) n)
-
-  -- one field of each
-  dimensions-at : {A : Type 0} (z : A) (f : Dimension → A) (d n k : ℕ) → k < n → getD (map f (dimensionsFrom m i a d n)) k z ≡ f (dimensionOf m i a (d + k))
-  unfolding dimensionsFrom
-  dimensions-at z f d zero k h = absurd (omega arith)
-  dimensions-at z f d (suc n) zero h = let e : d ≡ d + 0 = omega arith in ap (λ j. f (dimensionOf m i a j)) e
-  dimensions-at z f d (suc n) (suc k) h =
-      let e : suc d + k ≡ d + suc k = omega arith in
-      dimensions-at z f (suc d) n k (omega arith) ∙ ap (λ j. f (dimensionOf m i a j)) e
-
-  -- a field that stands in an array of the nest's
-  field-is : {A : Type 0} (z : A) (f : Dimension → A) (ys : List A) → m .loops ≤ 7 → length ys ≡ 7 → ((k : ℕ) → f (dimensionOf m i a k) ≡ getD ys k z)
-      → ((k : ℕ) → m .loops ≤ k → getD ys k z ≡ z) → filled 7 z (map f (dimensionsFrom m i a 0 (m .loops))) ≡ ys
-  field-is z f ys h l same behind =
-      let e : length (map f (dimensionsFrom m i a 0 (m .loops))) ≡ m .loops = length-map (dimensionsFrom m i a 0 (m .loops)) f ∙ dimensions-long 0 (m .loops) in
-      filled-is z (map f (dimensionsFrom m i a 0 (m .loops))) ys (m .loops) e h l
-      (λ k b. let q : 0 + k ≡ k = omega arith in dimensions-at z f 0 (m .loops) k b ∙ ap (λ j. f (dimensionOf m i a j)) q ∙ same k) behind
-
-  -- the pattern that the operations of a stream come to
-  pub pattern-same : (kind : Kind) → m .loops ≤ 7 → Tidy m → length (a .strides) ≡ 7 → ((d : ℕ) → m .loops ≤ d → getD (a .strides) d noElements ≡ noElements)
-      → patternOf (streamOf m i kind a) ≡ patternFor m a
-  pattern-same kind h tidy l behind = λ j. record {
-    shape = record {
-      dims = dimensions-long 0 (m .loops) j;
-      sizes = field-is 0 (λ d. d .size) (m .counts) h (tidy .counts-long) (λ k. refl) (tidy .counts) j;
-      mods = length (modifiersOf m);
-      modifiers = filled 8 noModifier (modifiersOf m);
-      coupling = couplingOf (m .coupled);
-    };
-    base = a .base;
-    offsets = field-is noBytes (λ d. d .offset) (replicate 7 noBytes) h refl (λ k. sym (getD-same 7 k noBytes)) (λ k b. getD-same 7 k noBytes) j;
-    strides = field-is noElements (λ d. d .stride) (a .strides) h l (λ k. refl) behind j;
-  }
-
 -- ---- a stream
 
 -- what an end looks at, of the nest's shape
@@ -198,11 +133,13 @@ pub record Bounded (m : Nest) : Type 0 where
   pub low-high : lowOrHigh (shapeOf m) ≡ false
   pub small : product (highsOf (shapeOf m)) ≤ 1048576
 
--- an access of a tidy nest
-pub record TidyAccess (loops : ℕ) (a : Access) : Type 0 where
-  pub range : AccessInRange loops a
-  pub long : length (a .strides) ≡ 7
-  pub behind : (d : ℕ) → loops ≤ d → getD (a .strides) d noElements ≡ noElements
+-- such is that of an accepted nest
+pub bounded : (m : Nest) → Accepted m → Bounded m
+bounded m ac = record {
+  few = omega (arith, modifiers-count m, ac .few);
+  low-high = low-high-same m 0 (m .loops) (omega arith) ∙ low-high-kept m .1 (ac .low-high);
+  small = subst (λ hs. product hs ≤ 1048576) (sym (highs-same m 0 (m .loops) (omega arith))) (ac .small);
+}
 
 -- a base in its range
 base-range : (z : ℤ) → pos 0 ≤ℤ z → z ≤ℤ pos 1048576 → (pos 0 ≤ℤ z) × (natAbs z ≤ 1048576)
@@ -215,13 +152,15 @@ coupling-range zero h = tt
 coupling-range (suc c) h = (omega arith, h)
 
 -- open, the dimensions with their modifiers, end: none is refused
-pub stream-gives : (m : Nest) → InRange m → Tidy m → Bounded m → (i : ℕ) → i ≤ 31 → (kind : Kind) (a : Access) → TidyAccess (m .loops) a
+pub stream-gives : (m : Nest) → Accepted m → (i : ℕ) → i ≤ 31 → (kind : Kind) (a : Access) → TidyAccess (m .loops) a
     → Gives i none (streamOps m i kind a) (ended (streamOf m i kind a))
 unfolding Gives
-stream-gives m range tidy bounded i low kind a t =
+stream-gives m ac i low kind a t =
+    let range : InRange m = ac .range in
+    let bound : Bounded m = bounded m ac in
     let s : Stream = streamOf m i kind a in
     let begun : Stream = record { header = headerFor m i kind; base = a .base; dimensions = []; modifiers = [] } in
-    let same : patternOf s ≡ patternFor m a = pattern-same m i a kind (range .loops-most) tidy (t .long) (t .behind) in
+    let same : patternOf s ≡ patternFor m a = pattern-same m ac i kind a t in
     gives-append i none (going s) (ended s) (op.Open (headerFor m i kind) (a .base) ∷ dimensionOps m i a 0 (m .loops)) (op.End i ∷ [])
     (gives-first i none (going begun) (going s) (op.Open (headerFor m i kind) (a .base)) (dimensionOps m i a 0 (m .loops))
     (record {
@@ -231,7 +170,7 @@ stream-gives m range tidy bounded i low kind a t =
       clear = nothing;
     })
     (rw (eq-eqb i i refl))
-    (dimensions-give m range i low a (t .range) 0 (m .loops) begun (omega arith) refl (omega (arith, bounded .few))))
+    (dimensions-give m range i low a (t .range) 0 (m .loops) begun (omega arith) refl (omega (arith, bound .few))))
     (gives-first i (going s) (ended s) (ended s) (op.End i) []
     (record {
       register = refl;
@@ -241,8 +180,8 @@ stream-gives m range tidy bounded i low kind a t =
           more _ _ _
           (neither _ _ (ne-eqb (length (s .dimensions)) 0 (λ e. omega (arith, dimensions-long m i a 0 (m .loops), range .loops-least)))
           (ap (λ (p : Pattern). uncovered (p .shape) (couplingOf (m .coupled))) same ∙ couples (shapeOf m) (m .coupled) (range .coupled)))
-          (more _ _ _ (ap (λ (p : Pattern). lowOrHigh (p .shape)) same ∙ bounded .low-high)
-          (more _ _ [] (le-ltb 1048576 _ (subst (λ (p : Pattern). product (highsOf (p .shape)) ≤ 1048576) (sym same) (bounded .small))) nothing));
+          (more _ _ _ (ap (λ (p : Pattern). lowOrHigh (p .shape)) same ∙ bound .low-high)
+          (more _ _ [] (le-ltb 1048576 _ (subst (λ (p : Pattern). product (highsOf (p .shape)) ≤ 1048576) (sym same) (bound .small))) nothing));
     })
     (rw (eq-eqb i i refl))
     refl)

@@ -1,41 +1,34 @@
--- The plain loop, chunk by chunk: a chunk that is read whole and then written whole does what the plain loop's visits of it do, if none of
+-- One chunk and the plain loop: a chunk that is read whole and then written whole does what the plain loop's visits of it do, if none of
 -- them reads what an earlier one wrote.
 --
 --   threeOf                        a nest's operation, width and patterns
 --   free, value-sets               elements that share no byte; a value apart from what was written
 --   one-chunk                      one chunk
---   plain-append, chunks-plain     visits in two parts; chunks in order
---   chunks-nest, chunks-join       the chunks of the streams are those of the visits; joined, they are the visits
---   none-in-chunk                  if no visit reads what an earlier one wrote, none reads what one of its chunk wrote
 use Prim.Native.Nat.{ℕ, zero, suc, _+_, _-_, _*_, _≤_, _<_}
-use mathlib.Core.Path.{_≡_, refl, sym, _∙_, ap, ap₂, subst}
+use mathlib.Core.Path.{_≡_, refl, sym, _∙_, ap, ap₂}
 use mathlib.Core.Logic.{_⊎_, inl, inr, ⊎-elim}
-use mathlib.Core.List.{List, [], _∷_, _++_, map}
+use mathlib.Core.List.{List, [], _∷_, map}
 use native.Mathlib.Omega.{arith}
 use native.Mathlib.Decide.{decLt}
-use lib.ListN.{length, getD, take, drop, set, length-append, take-append-drop, List·getD-append}
-use lib.Seq.{sets, getD-set-other, drop-drop, drop-length, getD-append-add}
+use lib.ListN.{length, getD, set}
+use lib.Seq.{sets, getD-set-other}
 use lib.Dec.{le→leb}
 use lib.IntN.{ℤ, pos, negsuc}
 use lib.Signed.{_≤ℤ_}
 use Rattle.codec.specs.declared.header.Width.{Width}
 use Rattle.codec.specs.declared.header.Width.the-variants.{B, H, W, D}
 use Rattle.codec.specs.Headers.{bytesOf}
-use Rattle.engine.specs.Loops.{natural, elements}
-use Rattle.engine.specs.Members.{Each, Ordered}
-use Rattle.engine.specs.Chunks.{chunkOf}
-use Rattle.engine.specs.GroupLaws.{join}
-use Rattle.engine.specs.ChunkLaws.{Covered, groups-join, chunkOf-front}
+use Rattle.engine.specs.Loops.{natural}
+use Rattle.engine.specs.Members.{Each}
 use Rattle.engine.specs.Memory.{valueAt, littleEndian, spot, fetch, stored}
 use Rattle.engine.specs.ByteLaws.{length-little}
 use Rattle.engine.specs.Lanes.{lane, lanewise}
-use Rattle.engine.specs.Allowed.{Lies}
-use Rattle.engine.specs.InStep.{Three, chunkDone, chunksDone}
+use Rattle.engine.specs.InStep.{Three, chunkDone}
 use Rattle.engine.specs.InStep as step
-use Rattle.translator.specs.Nests.{countAt, visits, widthOf, placeOf, visited, plainOver, couplingOf, visitGroups}
-use Rattle.translator.specs.NestSheets.{shapeOf, patternFor}
-use Rattle.translator.specs.Promise3.{Inside, Byte, Apart, NoneRead, Chunks, NoneReadInChunk}
-use Rattle.translator.specs.DescriptorLaws.{visits-elements, chunk-same, place-address}
+use Rattle.translator.specs.Nests.{widthOf, placeOf, visited, plainOver}
+use Rattle.translator.specs.NestSheets.{patternFor}
+use Rattle.translator.specs.Promise3.{Inside, Byte, Apart, NoneRead}
+use Rattle.translator.specs.DescriptorLaws.{place-address}
 use Rattle.translator.specs.declared.nest.Access.{Access}
 use Rattle.translator.specs.declared.nest.Nest.{Nest}
 
@@ -155,66 +148,3 @@ module _ (m : Nest) (few : m .loops ≤ 7) (len : ℕ) where
       (λ k l. apart-unread v (getD vs k []) (i 0 (omega arith)) (i (suc k) (omega arith)) (h 0 (suc k) (omega arith) (omega arith))))
       ∙ ap (λ y. chunkDone b y vs) (one-visit memory v)
       ∙ one-chunk vs (visited m memory v) (λ k l. i (suc k) (omega arith)) (λ j k l n. h (suc j) (suc k) (omega arith) (omega arith))
-
--- ---- chunks in order
-
--- each of two parts, and any two of each part
-module _ {A : Type 0} (z : A) (l k : List A) where
-  each-front : (P : A → Type 0) → Each z P (l ++ k) → Each z P l
-  each-front P e j h = subst P (List·getD-append l k z j h) (e j (omega (arith, length-append l k)))
-
-  each-back : (P : A → Type 0) → Each z P (l ++ k) → Each z P k
-  each-back P e j h = subst P (getD-append-add l k j z) (e (length l + j) (omega (arith, length-append l k)))
-
-  ordered-front : (R : A → A → Type 0) → Ordered z R (l ++ k) → Ordered z R l
-  ordered-front R e i j p h =
-      rw (List·getD-append l k z i (omega arith), List·getD-append l k z j h) at (e i j p (omega (arith, length-append l k)))
-
-  ordered-back : (R : A → A → Type 0) → Ordered z R (l ++ k) → Ordered z R k
-  ordered-back R e i j p h =
-      rw (getD-append-add l k i z, getD-append-add l k j z) at (e (length l + i) (length l + j) (omega arith) (omega (arith, length-append l k)))
-
--- visits in two parts
-pub plain-append : (m : Nest) (us vs : List (List ℕ)) (memory : List ℕ) → plainOver m memory (us ++ vs) ≡ plainOver m (plainOver m memory us) vs
-unfolding plainOver
-plain-append m [] vs memory = refl
-plain-append m (u ∷ us) vs memory = plain-append m us vs (visited m memory u)
-
--- chunks in order are the visits of all of them
-pub chunks-plain : (m : Nest) → m .loops ≤ 7 → (len : ℕ) (gs : List (List (List ℕ))) (memory : List ℕ) → Each [] (Inside m len) (join gs) → Each [] (NoneRead m) gs
-    → chunksDone (threeOf m) memory gs ≡ plainOver m memory (join gs)
-unfolding chunksDone join plainOver
-chunks-plain m few len [] memory i h = refl
-chunks-plain m few len (vs ∷ gs) memory i h =
-    ap (λ y. chunksDone (threeOf m) y gs)
-    (one-chunk m few len vs memory (each-front [] vs (join gs) (Inside m len) i) (h 0 (omega arith)))
-    ∙ chunks-plain m few len gs (plainOver m memory vs) (each-back [] vs (join gs) (Inside m len) i) (λ g l. h (suc g) (omega arith))
-    ∙ sym (plain-append m vs (join gs) memory)
-
-module _ (m : Nest) (covers : Covered (m .loops) (couplingOf (m .coupled))) (lanes : ℕ) where
-  -- the chunks of the streams are those of the visits
-  pub chunks-nest : (n : ℕ) (gs : List (List (List ℕ))) → step.Chunks (shapeOf m) lanes n gs → Chunks m lanes n gs
-  unfolding step.Chunks Chunks
-  chunks-nest n [] c = c ∙ ap length (visits-elements m)
-  chunks-nest n (vs ∷ gs) c = (c .0 ∙ chunk-same m covers lanes n, c .1, chunks-nest (n + length vs) gs (c .2))
-
-  -- joined, they are the visits
-  pub chunks-join : (n : ℕ) (gs : List (List (List ℕ))) → Chunks m lanes n gs → drop n (visits m) ≡ join gs
-  unfolding Chunks join visits
-  chunks-join n [] c = ap (λ k. drop k (visits m)) c ∙ drop-length (visits m)
-  chunks-join n (vs ∷ gs) c =
-      let front : vs ≡ take (length vs) (drop n (visits m)) =
-      rw (← c .0, groups-join (countAt m) (m .loops) (couplingOf (m .coupled)) covers) at (chunkOf-front (visitGroups m) lanes n) in
-      sym (take-append-drop (length vs) (drop n (visits m)))
-      ∙ ap₂ _++_ (sym front) (drop-drop (length vs) n (visits m) ∙ chunks-join (n + length vs) gs (c .2))
-
-  -- of each of lists that are joined
-  each-part : (gs : List (List (List ℕ))) → NoneRead m (join gs) → Each [] (NoneRead m) gs
-  unfolding join
-  each-part [] h g l = absurd (omega arith)
-  each-part (vs ∷ gs) h zero l = ordered-front [] vs (join gs) (Apart m) h
-  each-part (vs ∷ gs) h (suc g) l = each-part gs (ordered-back [] vs (join gs) (Apart m) h) g (omega arith)
-
-  -- where no visit reads what an earlier one wrote, none reads what an earlier one of its chunk wrote
-  pub none-in-chunk : NoneRead m (visits m) → NoneReadInChunk m lanes
-  none-in-chunk h gs c = each-part gs (subst (NoneRead m) (chunks-join 0 gs c) h)
