@@ -5,13 +5,13 @@
 --   fields-apart, fields-fit     the fields of a nest stand apart, and each has a place
 --   EachPlace, rest-fresh        places at which none of the numbers behind the first four stands
 use Prim.Native.Nat.{ℕ, zero, suc, _+_, _*_, _≤_, _<_}
-use mathlib.Core.Path.{_≡_, refl, sym, _∙_, ap}
+use mathlib.Core.Path.{_≡_, refl}
 use mathlib.Core.Logic.{_⊎_, inl, inr}
 use mathlib.Core.List.{List, [], _∷_, _++_}
 use native.Mathlib.Omega.{arith}
 use lib.ListN.{getD}
-use Rattle.translator.specs.Fields.{Role, first, second, destination, Field, width, loops, coupled, operation, count, term, base, stride, headFields, termFields, loopFields, strideFields, accessFields, restFields, fieldsOf}
-use Rattle.translator.specs.FieldLists.{All, all-append, all-terms, all-strides, all-loops, all-access, all-rest, EachField}
+use Rattle.translator.specs.Fields.{Role, first, second, destination, Field, loops, coupled, operation, count, term, base, stride, headFields, termFields, loopFields, strideFields, accessFields, restFields, fieldsOf}
+use Rattle.translator.specs.FieldLists.{All, all-append, all-terms, all-strides, all-loops, all-access, all-rest}
 use Rattle.translator.specs.PlaceLaws.{accessPart, place, sizes, Fits}
 
 -- none of them stands at place k

@@ -10,6 +10,7 @@ pub mod NestSheets
 pub mod Translation
 pub mod Acceptance
 pub mod NestNumbers
+pub mod NestStands
 pub mod RuleLaws
 pub mod Promise3
 pub mod Examples

@@ -1,16 +1,17 @@
 -- Numbers that stand one behind the other, and the nest that they give.
 --
---   stand-append               two lists of numbers
+--   stands-front, stands-back  bytes that stand in two parts
+--   stand-append, stand-cut    two lists of numbers
 --   stand-sized, stand-based, stand-kept   what they leave as it was
 --   stand-bytes, stand-holds   the nest's own numbers stand there, each in its range
 --   copied                     a nest's numbers put into another
 --   copied-stands              a nest's own numbers, where they stand
 --   copied-kept, copied-there  what they leave, and what they give
-use Prim.Native.Nat.{ℕ, zero, suc, _+_, _-_, _*_, _≤_, _<_}
+use Prim.Native.Nat.{ℕ, _+_, _-_, _≤_, _<_}
 use mathlib.Core.Path.{_≡_, refl, sym, _∙_, ap, subst}
 use mathlib.Core.List.{List, [], _∷_, _++_, append-assoc}
 use native.Mathlib.Omega.{arith}
-use lib.ListN.{length, getD, take, drop, length-append}
+use lib.ListN.{length, take, drop, length-append}
 use lib.Seq.{drop-at, take-append-seam}
 use lib.IntN.{ℤ, pos, negsuc, natAbs}
 use lib.Signed.{mag}
@@ -43,12 +44,12 @@ stands-between s pre l post at to e f g =
     }
 
 -- what stands as one stands side by side
-stands-front : (s l k : List ℕ) (at to : ℕ) → Stands s at (l ++ k) to → Stands s at l (at + length l)
+pub stands-front : (s l k : List ℕ) (at to : ℕ) → Stands s at (l ++ k) to → Stands s at l (at + length l)
 stands-front s l k at to h =
     let q = stands-split h in
     stands-between s (take at s) l (k ++ drop to s) at (at + length l) (q .0 ∙ simp append-assoc) (q .1) refl
 
-stands-back : (s l k : List ℕ) (at to : ℕ) → Stands s at (l ++ k) to → Stands s (at + length l) k to
+pub stands-back : (s l k : List ℕ) (at to : ℕ) → Stands s at (l ++ k) to → Stands s (at + length l) k to
 stands-back s l k at to h =
     let q = stands-split h in
     stands-between s (take at s ++ l) k (drop to s) (at + length l) to (q .0 ∙ simp append-assoc)
@@ -63,6 +64,14 @@ module _ (s : List ℕ) where
   unfolding Stand
   stand-append [] ys at mid to m k n h l = subst (λ x. Stand s ys x m to n) (sym (h .0)) (subst (λ x. Stand s ys mid x to n) (sym (h .1)) l)
   stand-append (x ∷ xs) ys at mid to m k n h l = (h .0, h .1, h .2, h .3, stand-append xs ys (h .1) mid to (put x (h .0) m) k n (h .4) l)
+
+  pub stand-cut : (xs ys : List Field) (at to : ℕ) (m n : Nest) → Stand s (xs ++ ys) at m to n
+      → (mid : ℕ) × (k : Nest) × Stand s xs at m mid k × Stand s ys mid k to n
+  unfolding Stand
+  stand-cut [] ys at to m n h = (at, m, (refl, refl), h)
+  stand-cut (x ∷ xs) ys at to m n h =
+      let r = stand-cut xs ys (h .1) to (put x (h .0) m) n (h .4) in
+      (r .0, r .1, (h .0, h .1, h .2, h .3, r .2), r .3)
 
   -- parts stay as long as they were
   pub stand-sized : (fs : List Field) (at to : ℕ) (m n : Nest) → Stand s fs at m to n → Sized m → Sized n
@@ -126,7 +135,7 @@ reach-small v h = signed-range v .1 (go (signedOf v) h)
     go (pos n) h = omega arith
     go (negsuc n) h = omega arith
 
-holds-small : (D : ℕ) (f : Field) (v : ℕ) → D ≤ 7 → Holds (rangeOf D f) v → v < 4294967296
+pub holds-small : (D : ℕ) (f : Field) (v : ℕ) → D ≤ 7 → Holds (rangeOf D f) v → v < 4294967296
 holds-small D width v d h = omega arith
 holds-small D loops v d h = omega arith
 holds-small D coupled v d h = omega arith

@@ -31,7 +31,7 @@ use Rattle.translator.specs.declared.nest.Nest.{Nest}
 -- ---- places
 
 -- the number of a stride
-abbrev strideNumber : Elements → ℕ
+abbrev pub strideNumber : Elements → ℕ
 strideNumber e = unsignedOf (e .0)
 
 abbrev accessNumbers : Access → List ℕ
@@ -254,7 +254,8 @@ action-back action.Xor = refl
 action-back action.Smaller = refl
 action-back action.Larger = refl
 
-signed-same : (x y : ℤ) → unsignedOf x ≡ unsignedOf y → x ≡ y
+-- two signed numbers that are written as one are one
+pub signed-same : (x y : ℤ) → unsignedOf x ≡ unsignedOf y → x ≡ y
 signed-same x y e = sym (signed-unsigned x) ∙ ap signedOf e ∙ signed-unsigned y
 
 access-same : (x y : Access) → Based x → Based y → length (x .strides) ≡ 7 → length (y .strides) ≡ 7 → natAbs (x .base .0) ≡ natAbs (y .base .0)
