@@ -5,7 +5,7 @@
 --   all-terms, all-strides, all-loops    of terms, strides and loops: exactly if it holds of each by its indices
 --   EachField, all-rest                  of all numbers behind the first four
 use Prim.Native.Nat.{ℕ, zero, suc, _+_, _≤_, _<_}
-use mathlib.Core.Path.{_≡_, refl, sym, _∙_, ap, subst}
+use mathlib.Core.Path.{_≡_, subst}
 use mathlib.Core.Logic.{_↔_}
 use mathlib.Core.List.{List, [], _∷_, _++_}
 use native.Mathlib.Omega.{arith}
@@ -87,7 +87,8 @@ module _ (P : Field → Type 0) where
     pub base : P (base a)
     pub strides : (d : ℕ) → d < D → P (stride a d)
 
-  all-access : (D : ℕ) (a : Role) → All (accessFields a D) ↔ OfAccess D a
+  -- an access
+  pub all-access : (D : ℕ) (a : Role) → All (accessFields a D) ↔ OfAccess D a
   unfolding All
   all-access D a = (
     λ h. record { base = h .0; strides = λ d u. all-strides a 0 D .0 (h .1) d (omega arith) (omega arith) },

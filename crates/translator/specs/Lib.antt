@@ -1,6 +1,7 @@
 pub mod Fields
 pub mod FieldLists
 pub mod PlaceLaws
+pub mod FieldPlaces
 pub mod Nests
 pub mod NestRules
 pub mod ModifierLaws
@@ -8,6 +9,8 @@ pub mod Reading
 pub mod NestSheets
 pub mod Translation
 pub mod Acceptance
+pub mod NestNumbers
+pub mod NestStands
 pub mod RuleLaws
 pub mod Promise3
 pub mod DescriptorLaws

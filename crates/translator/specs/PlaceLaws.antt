@@ -11,7 +11,6 @@ use Prim.Native.Nat.{ℕ, zero, suc, _+_, _*_, _/_, _%_, _≤_, _<_}
 use mathlib.Core.Path.{_≡_, refl, sym, _∙_, ap}
 use mathlib.Core.List.{List, [], _∷_, map}
 use native.Mathlib.Omega.{arith}
-use native.Mathlib.Decide.{ℕ-discrete}
 use lib.ListN.{length, getD, set, length-set, length-map, List·getD-map}
 use lib.Seq.{getD-set-same, getD-set-other, ext-getD}
 use lib.IntN.{ℤ, pos, natAbs}
@@ -32,7 +31,7 @@ use Rattle.translator.specs.declared.nest.Nest.{Nest}
 -- ---- places
 
 -- the number of a stride
-abbrev strideNumber : Elements → ℕ
+abbrev pub strideNumber : Elements → ℕ
 strideNumber e = unsignedOf (e .0)
 
 abbrev accessNumbers : Access → List ℕ
@@ -49,7 +48,8 @@ partsOf m =
     ∷ accessNumbers (m .destination)
     ∷ []
 
-abbrev accessPart : Role → ℕ
+-- the part of an access
+abbrev pub accessPart : Role → ℕ
 accessPart first = 3
 accessPart second = 4
 accessPart destination = 5
@@ -149,7 +149,8 @@ put-parts (stride destination d) n m D h = ap (λ l. set (partsOf m) 5 (natAbs (
 
 -- ---- lengths
 
-abbrev sizes : List ℕ
+-- the lengths of the parts
+abbrev pub sizes : List ℕ
 sizes = 4 ∷ 7 ∷ 49 ∷ 8 ∷ 8 ∷ 8 ∷ []
 
 -- parts of the right lengths
@@ -253,7 +254,8 @@ action-back action.Xor = refl
 action-back action.Smaller = refl
 action-back action.Larger = refl
 
-signed-same : (x y : ℤ) → unsignedOf x ≡ unsignedOf y → x ≡ y
+-- two signed numbers that are written as one are one
+pub signed-same : (x y : ℤ) → unsignedOf x ≡ unsignedOf y → x ≡ y
 signed-same x y e = sym (signed-unsigned x) ∙ ap signedOf e ∙ signed-unsigned y
 
 access-same : (x y : Access) → Based x → Based y → length (x .strides) ≡ 7 → length (y .strides) ≡ 7 → natAbs (x .base .0) ≡ natAbs (y .base .0)
@@ -274,26 +276,37 @@ pub record Long (m : Nest) : Type 0 where
   pub terms : length (m .terms) ≡ 49
   pub strides : (a : Role) → length (accessOf a m .strides) ≡ 7
 
+-- a number for loops among the seven
+abbrev pub Proper : Field → Type 0
+Proper width = Unit {0}
+Proper loops = Unit {0}
+Proper coupled = Unit {0}
+Proper operation = Unit {0}
+Proper (count t) = t < 7
+Proper (term t o) = (t < 7) × (o < 7)
+Proper (base a) = Unit {0}
+Proper (stride a d) = d < 7
+
 -- two nests of the same numbers are the same
 pub nests-same : (m n : Nest) → Long m → Long n → ((a : Role) → Based (accessOf a m)) → ((a : Role) → Based (accessOf a n))
-    → ((f : Field) → Fits f → numberIn f m ≡ numberIn f n) → m ≡ n
+    → ((f : Field) → Proper f → numberIn f m ≡ numberIn f n) → m ≡ n
 nests-same m n l k b c h = λ i. record {
   width = width-same i;
-  loops = h loops (omega arith) i;
-  coupled = h coupled (omega arith) i;
+  loops = h loops tt i;
+  coupled = h coupled tt i;
   action = action-same i;
   counts = counts-same i;
   terms = terms-same i;
-  first = same first (omega arith) (λ d u. omega arith) i;
-  second = same second (omega arith) (λ d u. omega arith) i;
-  destination = same destination (omega arith) (λ d u. omega arith) i;
+  first = same first i;
+  second = same second i;
+  destination = same destination i;
 }
   where
     width-same : m .width ≡ n .width
-    width-same = sym (width-back (m .width)) ∙ ap widthCoded (h width (omega arith)) ∙ width-back (n .width)
+    width-same = sym (width-back (m .width)) ∙ ap widthCoded (h width tt) ∙ width-back (n .width)
 
     action-same : m .action ≡ n .action
-    action-same = sym (action-back (m .action)) ∙ ap actionCoded (h operation (omega arith)) ∙ action-back (n .action)
+    action-same = sym (action-back (m .action)) ∙ ap actionCoded (h operation tt) ∙ action-back (n .action)
 
     counts-same : m .counts ≡ n .counts
     counts-same = ext-getD 0 (m .counts) (n .counts) (l .counts ∙ sym (k .counts)) (λ t u. h (count t) (omega (arith, l .counts)))
@@ -305,10 +318,10 @@ nests-same m n l k b c h = λ i. record {
         let e : termPlace (i / 7) (i % 7) ≡ i = omega arith in
         let q : i < 49 = omega (arith, l .terms) in
         signed-same (getD (m .terms) i (pos 0)) (getD (n .terms) i (pos 0))
-        (rw e at (h (term (i / 7) (i % 7)) (omega arith))))
+        (rw e at (h (term (i / 7) (i % 7)) (omega arith, omega arith))))
 
-    same : (a : Role) → Fits (base a) → ((d : ℕ) → d < 7 → Fits (stride a d)) → accessOf a m ≡ accessOf a n
-    same a u v = access-same (accessOf a m) (accessOf a n) (b a) (c a) (l .strides a) (k .strides a) (h (base a) u) (λ d q. h (stride a d) (v d q))
+    same : (a : Role) → accessOf a m ≡ accessOf a n
+    same a = access-same (accessOf a m) (accessOf a n) (b a) (c a) (l .strides a) (k .strides a) (h (base a) tt) (λ d. h (stride a d))
 
 -- parts of the right lengths, and the lists' lengths
 pub sized-long : (m : Nest) → Sized m → Long m
