@@ -1,19 +1,19 @@
 -- Operations of one register that stand in a sheet, accepted in turn by what was given for the register so far.
 --
---   stands-apart, stands-whole   bytes that stand side by side; a list, in itself
+--   stands-whole                 a list stands in itself
 --   Offers, Gives                an operation that is not refused; operations that lead from what was given to what is given then
 --   gives-first, gives-append    one operation, then others; in two parts
 --   gives-bytes                  their bytes
 --   offers-accepts               an operation that is not refused is accepted
 --   Turned, gives-turned         they are done in turn; their register has what they give, every other what it had
 --   turns-append                 turns behind turns
-use Prim.Native.Nat.{ℕ, _+_, _-_, _≤_, _<_}
-use mathlib.Core.Path.{_≡_, refl, sym, _∙_, ap, subst}
+use Prim.Native.Nat.{ℕ, _+_, _-_, _<_}
+use mathlib.Core.Path.{_≡_, refl, sym, _∙_, subst}
 use mathlib.Core.Logic.{_≢_}
 use mathlib.Core.List.{List, [], _∷_, _++_}
 use native.Mathlib.Omega.{arith}
-use lib.ListN.{length, take, drop, length-append, length-set}
-use lib.Seq.{take-append-seam, drop-append-seam, drop-drop, take-take, take-add, take-length}
+use lib.ListN.{length, length-set}
+use lib.Seq.{take-length}
 use Rattle.codec.specs.NumberLaws.{Stands}
 use Rattle.codec.specs.HeaderLaws.{free-none}
 use Rattle.codec.specs.Operations.{operationBytes}
@@ -30,36 +30,12 @@ use Rattle.engine.specs.Promise1.{Configures, InRange, after, Turns}
 use Rattle.engine.specs.declared.check.Why.the-variants.{Nothing}
 use Rattle.engine.specs.declared.register.Machine.{Machine}
 use Rattle.translator.specs.NestSheets.{bytesOfAll}
+use Rattle.translator.specs.NestNumbers.{stands-front, stands-back}
 use Rattle.translator.specs.ByteLaws.{Bytewise, bytes-none, bytes-append, operation-bytes}
-
--- ---- bytes
-
--- what stands as one stands side by side
-pub stands-apart : (s l k : List ℕ) (at to : ℕ) → Stands s at (l ++ k) to → Stands s at l (at + length l) × Stands s (at + length l) k to
-stands-apart s l k at to h =
-    let n : length (l ++ k) ≡ length l + length k = length-append l k in
-    let b : to ≡ at + length (l ++ k) = h .behind in
-    let w : to ≤ length s = h .within in
-    let first : at + length l - at ≡ length l = omega arith in
-    let all : to - at ≡ length l + length k = omega arith in
-    let rest : to - (at + length l) ≡ length k = omega arith in
-    let both : take (length l + length k) (drop at s) ≡ l ++ k = rw all at (h .bytes) in
-    let front : take (length l) (drop at s) ≡ l =
-    sym (take-take (length l) (length l + length k) (drop at s) (omega arith)) ∙ ap (take (length l)) both ∙ take-append-seam l k in
-    let back : l ++ take (length k) (drop (length l) (drop at s)) ≡ l ++ k = rw (take-add (length l) (length k) (drop at s), front) at both in (
-      record { bytes = rw first front; behind = refl; within = omega arith },
-      record {
-        bytes = rw (rest, ← drop-drop (length l) at s) (sym (drop-append-seam l _) ∙ ap (drop (length l)) back ∙ drop-append-seam l k);
-        behind = omega arith;
-        within = w;
-      },
-    )
 
 -- a list stands in itself
 pub stands-whole : (s : List ℕ) → Stands s 0 s (length s)
 stands-whole s = let z : length s - 0 ≡ length s = omega arith in record { bytes = rw z (take-length s); behind = omega arith; within = omega arith }
-
--- ---- operations
 
 -- an operation of register i that is in range and not refused, after what was given for the register
 pub record Offers (i : ℕ) (g : Given) (o : Operation) : Type 0 where
@@ -118,14 +94,18 @@ gives-turned s i below [] g h at to m all gives has stands = record {
 }
 gives-turned s i below (o ∷ os) g h at to m all gives has stands =
     let f : Offers i g o = gives .0 in
-    let q = stands-apart s (operationBytes 0 o) (bytesOfAll os) at to stands in
     let a : Accepts o (reg m (registerOf o)) = offers-accepts i g o m f has in
     let same : length (after o m .registers) ≡ 32 = length-set (m .registers) (registerOf o) (applied o (reg m (registerOf o))) ∙ all in
     let r = gives-turned s i below os (givenBy i o g) h (at + length (operationBytes 0 o)) to (after o m) same (gives .1)
-    (after-has o m i g (omega arith) a has) (q .1) in
+    (after-has o m i g (omega arith) a has) (stands-back s (operationBytes 0 o) (bytesOfAll os) at to stands) in
     record {
       machine = r .machine;
-      turns = (at + length (operationBytes 0 o), record { free = 0; is-free = free-none; range = f .range; stands = q .0 }, a, r .turns);
+      turns = (
+        at + length (operationBytes 0 o),
+        record { free = 0; is-free = free-none; range = f .range; stands = stands-front s (operationBytes 0 o) (bytesOfAll os) at to stands },
+        a,
+        r .turns,
+      );
       all = r .all;
       own = r .own;
       others = λ j x b n k. r .others j x b n

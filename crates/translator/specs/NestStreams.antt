@@ -6,10 +6,10 @@
 use Prim.Native.Nat.{ℕ, zero, suc, _+_, _-_, _≤_, _<_}
 use mathlib.Core.Path.{_≡_, refl, sym, _∙_, ap, subst}
 use mathlib.Core.List.{List, [], _∷_, _++_, map, append-assoc, append-nil}
-use mathlib.Core.Bool.{Bool, true, false, cond}
+use mathlib.Core.Bool.{Bool, true, false, cond, _||_}
 use native.Mathlib.Omega.{arith}
 use lib.ListN.{length, length-append}
-use lib.Dec.{eqb, leb→le}
+use lib.Dec.{eqb, ltb, leb→le}
 use lib.IntN.{ℤ, pos, negsuc, natAbs}
 use lib.Signed.{_≤ℤ_}
 use borrow.Author.Tests.{eq-eqb, ne-eqb, lt-leb, le-ltb}
@@ -151,37 +151,52 @@ coupling-range : (c : ℕ) → c ≤ 7 → CouplingInRange (couplingOf c)
 coupling-range zero h = tt
 coupling-range (suc c) h = (omega arith, h)
 
--- open, the dimensions with their modifiers, end: none is refused
-pub stream-gives : (m : Nest) → Accepted m → (i : ℕ) → i ≤ 31 → (kind : Kind) (a : Access) → TidyAccess (m .loops) a
-    → Gives i none (streamOps m i kind a) (ended (streamOf m i kind a))
-unfolding Gives
-stream-gives m ac i low kind a t =
-    let range : InRange m = ac .range in
-    let bound : Bounded m = bounded m ac in
-    let s : Stream = streamOf m i kind a in
-    let begun : Stream = record { header = headerFor m i kind; base = a .base; dimensions = []; modifiers = [] } in
-    let same : patternOf s ≡ patternFor m a = pattern-same m ac i kind a t in
-    gives-append i none (going s) (ended s) (op.Open (headerFor m i kind) (a .base) ∷ dimensionOps m i a 0 (m .loops)) (op.End i ∷ [])
-    (gives-first i none (going begun) (going s) (op.Open (headerFor m i kind) (a .base)) (dimensionOps m i a 0 (m .loops))
-    (record {
-      register = refl;
-      configures = tt;
-      range = (low, (coupling-range (m .coupled) (omega (arith, range .coupled, range .loops-most)), base-range (a .base .0) (t .range .base-least) (t .range .base-most)));
-      clear = nothing;
-    })
-    (rw (eq-eqb i i refl))
-    (dimensions-give m range i low a (t .range) 0 (m .loops) begun (omega arith) refl (omega (arith, bound .few))))
-    (gives-first i (going s) (ended s) (ended s) (op.End i) []
-    (record {
-      register = refl;
-      configures = tt;
-      range = low;
-      clear =
-          more _ _ _
-          (neither _ _ (ne-eqb (length (s .dimensions)) 0 (λ e. omega (arith, dimensions-long m i a 0 (m .loops), range .loops-least)))
-          (ap (λ (p : Pattern). uncovered (p .shape) (couplingOf (m .coupled))) same ∙ couples (shapeOf m) (m .coupled) (range .coupled)))
-          (more _ _ _ (ap (λ (p : Pattern). lowOrHigh (p .shape)) same ∙ bound .low-high)
-          (more _ _ [] (le-ltb 1048576 _ (subst (λ (p : Pattern). product (highsOf (p .shape)) ≤ 1048576) (sym same) (bound .small))) nothing));
-    })
-    (rw (eq-eqb i i refl))
-    refl)
+module _ (m : Nest) (ac : Accepted m) (i : ℕ) (low : i ≤ 31) (kind : Kind) (a : Access) (t : TidyAccess (m .loops) a) where
+  -- the stream, and what is given for it by its open
+  abbrev s : Stream
+  s = streamOf m i kind a
+
+  abbrev opened : Stream
+  opened = record { header = headerFor m i kind; base = a .base; dimensions = []; modifiers = [] }
+
+  open-offers : Offers i none (op.Open (headerFor m i kind) (a .base))
+  open-offers = record {
+    register = refl;
+    configures = tt;
+    range = (
+      low,
+      (coupling-range (m .coupled) (omega (arith, ac .range .coupled, ac .range .loops-most)), base-range (a .base .0) (t .range .base-least) (t .range .base-most)),
+    );
+    clear = nothing;
+  }
+
+  -- its pattern is the nest's
+  same : patternOf s ≡ patternFor m a
+  same = pattern-same m ac i kind a t
+
+  -- it has a dimension and the coupled one
+  placed : (eqb (length (s .dimensions)) 0 || uncovered (patternOf s .shape) (couplingOf (m .coupled))) ≡ false
+  placed =
+      neither _ _ (ne-eqb (length (s .dimensions)) 0 (λ e. omega (arith, dimensions-long m i a 0 (m .loops), ac .range .loops-least)))
+      (ap (λ (p : Pattern). uncovered (p .shape) (couplingOf (m .coupled))) same ∙ couples (shapeOf m) (m .coupled) (ac .range .coupled))
+
+  end-offers : Offers i (going s) (op.End i)
+  end-offers = record {
+    register = refl;
+    configures = tt;
+    range = low;
+    clear =
+        more _ _ _ placed
+        (more _ _ _ (ap (λ (p : Pattern). lowOrHigh (p .shape)) same ∙ bounded m ac .low-high)
+        (more _ _ [] (ap (λ (p : Pattern). ltb 1048576 (product (highsOf (p .shape)))) same ∙ le-ltb 1048576 _ (bounded m ac .small)) nothing));
+  }
+
+  -- open, the dimensions with their modifiers, end: none is refused
+  pub stream-gives : Gives i none (streamOps m i kind a) (ended s)
+  unfolding Gives
+  stream-gives =
+      gives-append i none (going s) (ended s) (op.Open (headerFor m i kind) (a .base) ∷ dimensionOps m i a 0 (m .loops)) (op.End i ∷ [])
+      (gives-first i none (going opened) (going s) (op.Open (headerFor m i kind) (a .base)) (dimensionOps m i a 0 (m .loops)) open-offers
+      (rw (eq-eqb i i refl))
+      (dimensions-give m (ac .range) i low a (t .range) 0 (m .loops) opened (omega arith) refl (omega (arith, bounded m ac .few))))
+      (gives-first i (going s) (ended s) (ended s) (op.End i) [] end-offers (rw (eq-eqb i i refl)) refl)

@@ -27,8 +27,9 @@ use Rattle.translator.specs.Fields.{Role, first, second, destination, ac
 use Rattle.translator.specs.Nests.{widthOf}
 use Rattle.translator.specs.NestSheets.{streamOf, patternFor, streamOps, sheetOps, runOp, calculationOf, bytesOfAll, sheetOf}
 use Rattle.translator.specs.Acceptance.{Accepted}
+use Rattle.translator.specs.NestNumbers.{stands-front, stands-back}
 use Rattle.translator.specs.ByteLaws.{Bytewise, bytes-append, operation-bytes, calculation-bytes, all-append}
-use Rattle.translator.specs.GivingLaws.{stands-apart, stands-whole, Gives, gives-bytes, Turned, gives-turned, turns-append}
+use Rattle.translator.specs.GivingLaws.{stands-whole, Gives, gives-bytes, Turned, gives-turned, turns-append}
 use Rattle.translator.specs.PatternLaws.{tidy-access, pattern-same}
 use Rattle.translator.specs.NestStreams.{stream-gives}
 use Rattle.translator.specs.declared.nest.Nest.{Nest}
@@ -113,16 +114,20 @@ module _ (m : Nest) (ac : Accepted m) where
   abbrev at3 : ℕ
   at3 = 0 + length opsBytes
 
-  all-stand : Stands (sheetOf m) 0 opsBytes at3 × Stands (sheetOf m) at3 runBytes (length (sheetOf m))
-  all-stand =
-      stands-apart (sheetOf m) opsBytes runBytes 0 (length (sheetOf m))
-      (subst (λ l. Stands (sheetOf m) 0 l (length (sheetOf m))) sheet-bytes (stands-whole (sheetOf m)))
+  whole : Stands (sheetOf m) 0 (opsBytes ++ runBytes) (length (sheetOf m))
+  whole = subst (λ l. Stands (sheetOf m) 0 l (length (sheetOf m))) sheet-bytes (stands-whole (sheetOf m))
 
-  first-stands : Stands (sheetOf m) 0 (bytes first) at1 × Stands (sheetOf m) at1 (bytes second ++ bytes destination) at3
-  first-stands = stands-apart (sheetOf m) (bytes first) (bytes second ++ bytes destination) 0 at3 (all-stand .0)
+  all-stand : Stands (sheetOf m) 0 opsBytes at3
+  all-stand = stands-front (sheetOf m) opsBytes runBytes 0 (length (sheetOf m)) whole
 
-  second-stands : Stands (sheetOf m) at1 (bytes second) at2 × Stands (sheetOf m) at2 (bytes destination) at3
-  second-stands = stands-apart (sheetOf m) (bytes second) (bytes destination) at1 at3 (first-stands .1)
+  first-stands : Stands (sheetOf m) 0 (bytes first) at1
+  first-stands = stands-front (sheetOf m) (bytes first) (bytes second ++ bytes destination) 0 at3 all-stand
+
+  rest-stands : Stands (sheetOf m) at1 (bytes second ++ bytes destination) at3
+  rest-stands = stands-back (sheetOf m) (bytes first) (bytes second ++ bytes destination) 0 at3 all-stand
+
+  run-stands : Stands (sheetOf m) at3 runBytes (length (sheetOf m))
+  run-stands = stands-back (sheetOf m) opsBytes runBytes 0 (length (sheetOf m)) whole
 
   -- ---- its operations, in turn
 
@@ -132,19 +137,22 @@ module _ (m : Nest) (ac : Accepted m) where
       gives-turned (sheetOf m) (registerFor a) (omega (arith, low a)) (ops a) none (ended (stream a)) at to n all (gives a) h s
 
   turned1 : Turned (sheetOf m) 1 (ops first) (ended (stream first)) 0 at1 freshMachine
-  turned1 = turned first 0 at1 freshMachine refl (fresh-has 1 (omega arith)) (first-stands .0)
+  turned1 = turned first 0 at1 freshMachine refl (fresh-has 1 (omega arith)) first-stands
 
   -- another register has nothing after the first stream
   after1 : (i : ℕ) → i < 32 → i ≢ 1 → Has none (reg (turned1 .machine) i)
   after1 i h n = turned1 .others i none h n (fresh-has i h)
 
   turned2 : Turned (sheetOf m) 2 (ops second) (ended (stream second)) at1 at2 (turned1 .machine)
-  turned2 = turned second at1 at2 (turned1 .machine) (turned1 .all) (after1 2 (omega arith) (λ e. omega arith)) (second-stands .0)
+  turned2 =
+      turned second at1 at2 (turned1 .machine) (turned1 .all) (after1 2 (omega arith) (λ e. omega arith))
+      (stands-front (sheetOf m) (bytes second) (bytes destination) at1 at3 rest-stands)
 
   turned3 : Turned (sheetOf m) 3 (ops destination) (ended (stream destination)) at2 at3 (turned2 .machine)
   turned3 =
       turned destination at2 at3 (turned2 .machine) (turned2 .all)
-      (turned2 .others 3 none (omega arith) (λ e. omega arith) (after1 3 (omega arith) (λ e. omega arith))) (second-stands .1)
+      (turned2 .others 3 none (omega arith) (λ e. omega arith) (after1 3 (omega arith) (λ e. omega arith)))
+      (stands-back (sheetOf m) (bytes second) (bytes destination) at1 at3 rest-stands)
 
   abbrev last : Machine
   last = turned3 .machine
@@ -167,26 +175,29 @@ module _ (m : Nest) (ac : Accepted m) where
   abbrev runs : ℕ
   runs = at3 + length (operationBytes 0 runOp)
 
-  run-stands : RunAt (sheetOf m) at3 1 (body m runs ∷ []) (length (sheetOf m))
+  run-there : RunAt (sheetOf m) at3 1 (body m runs ∷ []) (length (sheetOf m))
   unfolding BodyAt
-  run-stands =
-      let s = stands-apart (sheetOf m) (operationBytes 0 runOp) (calculationBytes (calculationOf m)) at3 (length (sheetOf m)) (all-stand .1) in
+  run-there = record {
+    from = runs;
+    written = record {
+      free = 0;
+      is-free = free-none;
+      range = (omega arith, (omega arith, omega arith));
+      stands = stands-front (sheetOf m) (operationBytes 0 runOp) (calculationBytes (calculationOf m)) at3 (length (sheetOf m)) run-stands;
+    };
+    body = (
+      length (sheetOf m),
+      refl,
       record {
-        from = runs;
-        written = record { free = 0; is-free = free-none; range = (omega arith, (omega arith, omega arith)); stands = s .0 };
-        body = (
-          length (sheetOf m),
-          refl,
-          record {
-            destination = omega arith;
-            first = omega arith;
-            second = omega arith;
-            copy = λ e. absurd (omega (arith, ac .range .operation));
-            stands = s .1;
-          },
-          refl,
-        );
-      }
+        destination = omega arith;
+        first = omega arith;
+        second = omega arith;
+        copy = λ e. absurd (omega (arith, ac .range .operation));
+        stands = stands-back (sheetOf m) (operationBytes 0 runOp) (calculationBytes (calculationOf m)) at3 (length (sheetOf m)) run-stands;
+      },
+      refl,
+    );
+  }
 
   -- all of it
   pub started : Started m
@@ -196,7 +207,7 @@ module _ (m : Nest) (ac : Accepted m) where
     place = at3;
     before = in-turn;
     from = runs;
-    run-at = run-stands;
+    run-at = run-there;
     streams = λ a.
         subst (λ p. Streaming p (kindFor a) (widthOf m) 0 (reg last (registerFor a))) (pattern-same m ac (registerFor a) (kindFor a) (accessOf a m) (tidy-access m ac a))
         (ended-streaming (stream a) (reg last (registerFor a)) (has a));
