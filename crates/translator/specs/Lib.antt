@@ -12,6 +12,7 @@ pub mod Acceptance
 pub mod NestNumbers
 pub mod NestStands
 pub mod RuleLaws
+pub mod NestingLaws
 pub mod Promise3
 pub mod DescriptorLaws
 pub mod PlainLaws

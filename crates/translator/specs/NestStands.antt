@@ -2,10 +2,10 @@
 --
 --   stood            numbers that stand there: the nest in range and tidy, its bytes
 --   standing         the numbers of a nest in range and tidy, where its bytes stand
-use Prim.Native.Nat.{ℕ, zero, suc, _+_, _-_, _*_, _≤_, _<_}
+use Prim.Native.Nat.{ℕ, zero, suc, _+_, _-_, _≤_, _<_}
 use mathlib.Core.Path.{_≡_, refl, sym, _∙_, ap, subst}
 use mathlib.Core.Logic.{_⊎_, inl, inr}
-use mathlib.Core.List.{List, [], _∷_, _++_}
+use mathlib.Core.List.{List, _∷_, _++_}
 use native.Mathlib.Omega.{arith}
 use native.Mathlib.Decide.{decLt}
 use lib.ListN.{length, getD, getD-replicate, List·getD-eq-default}
@@ -25,8 +25,8 @@ use Rattle.codec.specs.declared.amounts.Elements.{Elements}
 use Rattle.engine.specs.AllowedLaws.{test-plain, nonneg-plain}
 use Rattle.engine.specs.Addresses.{noElements}
 use Rattle.translator.specs.Fields.{Role, first, second, destination, termPlace, Field, width, loops, coupled, operation, count, term, base, stride, headFields, restFields, fieldsOf, rangeOf, Holds, accessOf, termOf, noNest, put, numberIn}
-use Rattle.translator.specs.FieldLists.{All, EachField, OfAccess, all-rest, all-back}
-use Rattle.translator.specs.PlaceLaws.{place, put-sized, Sized, Fits, Based, Long, Proper, strideNumber, signed-same, sized-long, nests-same}
+use Rattle.translator.specs.FieldLists.{All, EachField, OfAccess, all-rest}
+use Rattle.translator.specs.PlaceLaws.{place, put-sized, Sized, Based, Long, Proper, strideNumber, signed-same, sized-long, nests-same}
 use Rattle.translator.specs.FieldPlaces.{Fresh, Apart, fields-apart, fields-fit, count-fresh, term-fresh, stride-fresh, loops-fresh}
 use Rattle.translator.specs.NestNumbers.{stands-front, stands-back, stand-append, stand-cut, holds-small, stand-sized, stand-based, stand-kept, stand-bytes, stand-holds, copied, copied-stands, copied-kept, copied-there}
 use Rattle.translator.specs.Reading.{numbersBytes, nestBytes}
