@@ -38,11 +38,12 @@ use Rattle.engine.specs.declared.run.Placed.{Placed}
 use Rattle.engine.specs.declared.run.Verdict.the-variants.{Done}
 use Rattle.translator.specs.Fields.{first, second, destination}
 use Rattle.translator.specs.Nests.{visits, widthOf, placeOf, plainOver, plainLoop, couplingOf}
-use Rattle.translator.specs.Reading.{nest, nestAt, nestBytes}
+use Rattle.translator.specs.Reading.{nestAt, nestBytes}
 use Rattle.translator.specs.NestSheets.{shapeOf, patternFor, sheetOps, calculationOf, sheetOf}
 use Rattle.translator.specs.Translation.{unrun, runNested, runNest}
 use Rattle.translator.specs.Acceptance.{Accepted}
 use Rattle.translator.specs.Promise3.{Inside, AllInside, Chunks, NoneReadInChunk, Promise3}
+use Rattle.translator.specs.NestingLaws.{accepted-read}
 use Rattle.translator.specs.DescriptorLaws.{couples, visits-elements, place-address}
 use Rattle.translator.specs.PlainLaws.{threeOf}
 use Rattle.translator.specs.ChunkedLaws.{chunks-plain, chunks-nest, chunks-join, none-in-chunk}
@@ -142,21 +143,19 @@ module _ (m : Nest) (ac : Accepted m) (vl : ℕ) (memory : List ℕ) (fits : Fit
 
 -- ---- the promise
 
--- given that the bytes of an accepted nest are read as that nest
-module _ (nest-read : (m : Nest) → Accepted m → nestAt (nestBytes m) ≡ nest m) where
-  -- they are translated and run
-  reads : (m : Nest) (vl : ℕ) (memory : List ℕ) → Accepted m → Fits vl (length memory)
-      → runNest vl (nestBytes m) memory ≡ record { stage = stage.Sheet; progress = run vl (sheetOf m) memory }
-  unfolding runNest
-  reads m vl memory ac f =
-      ap (λ b. cond b (runNested vl (nestAt (nestBytes m)) memory) (unrun stage.Lengths memory reason.Lengths 0)) (fits-allowed vl (length memory) .1 f)
-      ∙ ap (λ d. runNested vl d memory) (nest-read m ac)
+-- the bytes of an accepted nest are translated and run
+reads : (m : Nest) (vl : ℕ) (memory : List ℕ) → Accepted m → Fits vl (length memory)
+    → runNest vl (nestBytes m) memory ≡ record { stage = stage.Sheet; progress = run vl (sheetOf m) memory }
+unfolding runNest
+reads m vl memory ac f =
+    ap (λ b. cond b (runNested vl (nestAt (nestBytes m)) memory) (unrun stage.Lengths memory reason.Lengths 0)) (fits-allowed vl (length memory) .1 f)
+    ∙ ap (λ d. runNested vl d memory) (accepted-read (nestBytes m) m ac refl)
 
-  -- Promise 3
-  pub promise3 : (m : Nest) (vl : ℕ) (memory : List ℕ) → Accepted m → Fits vl (length memory) → Promise3 m vl memory
-  promise3 m vl memory ac f = record {
-    runs = reads m vl memory ac f;
-    done = is-done m ac vl memory f;
-    plain = λ i n. is-plain m ac vl memory f i (none-in-chunk m (covers m ac) (vl / widthOf m) n);
-    chunkwise = is-plain m ac vl memory f;
-  }
+-- Promise 3
+pub promise3 : (m : Nest) (vl : ℕ) (memory : List ℕ) → Accepted m → Fits vl (length memory) → Promise3 m vl memory
+promise3 m vl memory ac f = record {
+  runs = reads m vl memory ac f;
+  done = is-done m ac vl memory f;
+  plain = λ i n. is-plain m ac vl memory f i (none-in-chunk m (covers m ac) (vl / widthOf m) n);
+  chunkwise = is-plain m ac vl memory f;
+}

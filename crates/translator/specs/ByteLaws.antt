@@ -76,7 +76,7 @@ signed-bytes : (z : ℤ) → natAbs z ≤ 1048576 → Bytewise (numberBytes (uns
 signed-bytes (pos n) h = number-bytes (unsignedOf (pos n)) (omega arith)
 signed-bytes (negsuc n) h = number-bytes (unsignedOf (negsuc n)) (omega arith)
 
--- codes
+-- the codes of a parameter, a behaviour, an operation
 parameter-bytes : (q : Parameter) → Bytewise (numberBytes (parameterCode q))
 parameter-bytes parameter.Size = number-bytes 0 (omega arith)
 parameter-bytes parameter.Offset = number-bytes 1 (omega arith)

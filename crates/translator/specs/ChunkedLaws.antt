@@ -21,14 +21,15 @@ use Rattle.translator.specs.DescriptorLaws.{visits-elements, chunk-same}
 use Rattle.translator.specs.PlainLaws.{threeOf, one-chunk}
 use Rattle.translator.specs.declared.nest.Nest.{Nest}
 
--- each of two parts, and any two of each part
 module _ {A : Type 0} (z : A) (l k : List A) where
+  -- each of the first of two parts; of the second
   each-front : (P : A → Type 0) → Each z P (l ++ k) → Each z P l
   each-front P e j h = subst P (List·getD-append l k z j h) (e j (omega (arith, length-append l k)))
 
   each-back : (P : A → Type 0) → Each z P (l ++ k) → Each z P k
   each-back P e j h = subst P (getD-append-add l k j z) (e (length l + j) (omega (arith, length-append l k)))
 
+  -- any two of the first of two parts, the earlier first; of the second
   ordered-front : (R : A → A → Type 0) → Ordered z R (l ++ k) → Ordered z R l
   ordered-front R e i j p h =
       rw (List·getD-append l k z i (omega arith), List·getD-append l k z j h) at (e i j p (omega (arith, length-append l k)))

@@ -86,6 +86,7 @@ count-size m d outer e =
 
 -- ---- visits
 
+-- spans of the same
 span-same : {A : Type 0} (f g : ℕ → List A) (k n : ℕ) → ((i : ℕ) → f i ≡ g i) → span f k n ≡ span g k n
 unfolding span
 span-same f g k zero h = refl
@@ -100,6 +101,7 @@ module _ (f g : ℕ → List ℕ → ℕ) (D : ℕ) (same : (d : ℕ) (outer : L
       ap (span (λ k. loops f d n (k ∷ outer)) 0) (same (d + n) outer (omega arith))
       ∙ span-same _ _ 0 (g (d + n) outer) (λ k. loops-same d n (k ∷ outer) (omega arith))
 
+  -- the loops inside outer indices
   map-same : (c : ℕ) (vs : List (List ℕ)) → Each [] (λ v. 0 + c + length v ≡ D) vs → map (loops f 0 c) vs ≡ map (loops g 0 c) vs
   map-same c [] h = refl
   map-same c (v ∷ vs) h = ap₂ _∷_ (loops-same 0 c v (h 0 (omega arith))) (map-same c vs (λ k l. h (suc k) (omega arith)))
@@ -114,6 +116,7 @@ module _ (f g : ℕ → List ℕ → ℕ) (D : ℕ) (same : (d : ℕ) (outer : L
       ∙ map-same c (loops g c (D - c) []) (λ j l. omega (arith, loops-length g c (D - c) [] j l)))
 
 module _ (m : Nest) where
+  -- counts and sizes
   sizes : (d : ℕ) (outer : List ℕ) → suc d + length outer ≡ m .loops → sizeAt (shapeOf m) d outer ≡ countAt m d outer
   sizes d outer e = count-size m d outer e
 

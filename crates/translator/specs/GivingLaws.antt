@@ -1,19 +1,17 @@
 -- Operations of one register that stand in a sheet, accepted in turn by what was given for the register so far.
 --
---   stands-whole                 a list stands in itself
 --   Offers, Gives                an operation that is not refused; operations that lead from what was given to what is given then
 --   gives-first, gives-append    one operation, then others; in two parts
 --   gives-bytes                  their bytes
 --   offers-accepts               an operation that is not refused is accepted
 --   Turned, gives-turned         they are done in turn; their register has what they give, every other what it had
 --   turns-append                 turns behind turns
-use Prim.Native.Nat.{ℕ, _+_, _-_, _<_}
+use Prim.Native.Nat.{ℕ, _+_, _<_}
 use mathlib.Core.Path.{_≡_, refl, sym, _∙_, subst}
 use mathlib.Core.Logic.{_≢_}
 use mathlib.Core.List.{List, [], _∷_, _++_}
 use native.Mathlib.Omega.{arith}
 use lib.ListN.{length, length-set}
-use lib.Seq.{take-length}
 use Rattle.codec.specs.NumberLaws.{Stands}
 use Rattle.codec.specs.HeaderLaws.{free-none}
 use Rattle.codec.specs.Operations.{operationBytes}
@@ -32,10 +30,6 @@ use Rattle.engine.specs.declared.register.Machine.{Machine}
 use Rattle.translator.specs.NestSheets.{bytesOfAll}
 use Rattle.translator.specs.NestNumbers.{stands-front, stands-back}
 use Rattle.translator.specs.ByteLaws.{Bytewise, bytes-none, bytes-append, operation-bytes}
-
--- a list stands in itself
-pub stands-whole : (s : List ℕ) → Stands s 0 s (length s)
-stands-whole s = let z : length s - 0 ≡ length s = omega arith in record { bytes = rw z (take-length s); behind = omega arith; within = omega arith }
 
 -- an operation of register i that is in range and not refused, after what was given for the register
 pub record Offers (i : ℕ) (g : Given) (o : Operation) : Type 0 where

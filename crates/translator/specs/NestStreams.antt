@@ -152,13 +152,15 @@ coupling-range zero h = tt
 coupling-range (suc c) h = (omega arith, h)
 
 module _ (m : Nest) (ac : Accepted m) (i : ℕ) (low : i ≤ 31) (kind : Kind) (a : Access) (t : TidyAccess (m .loops) a) where
-  -- the stream, and what is given for it by its open
+  -- the stream
   abbrev s : Stream
   s = streamOf m i kind a
 
+  -- what its open gives
   abbrev opened : Stream
   opened = record { header = headerFor m i kind; base = a .base; dimensions = []; modifiers = [] }
 
+  -- the open is not refused
   open-offers : Offers i none (op.Open (headerFor m i kind) (a .base))
   open-offers = record {
     register = refl;
@@ -180,6 +182,7 @@ module _ (m : Nest) (ac : Accepted m) (i : ℕ) (low : i ≤ 31) (kind : Kind) (
       neither _ _ (ne-eqb (length (s .dimensions)) 0 (λ e. omega (arith, dimensions-long m i a 0 (m .loops), ac .range .loops-least)))
       (ap (λ (p : Pattern). uncovered (p .shape) (couplingOf (m .coupled))) same ∙ couples (shapeOf m) (m .coupled) (ac .range .coupled))
 
+  -- nor is the end
   end-offers : Offers i (going s) (op.End i)
   end-offers = record {
     register = refl;

@@ -2,6 +2,7 @@
 --
 --   holds-plain                          the range of a number, as a test
 --   read-through, read-fault, read-either   numbers read one by one: all of them, or the refusal of the first fault
+--   all-stand                            bytes that are a list stand from the first to the last
 --   accepted-read, refused-read          an accepted nest is read from its bytes; the refusals are given
 --   Answer, nest-answer                  every list of bytes is an accepted nest, or has its refusal
 use Prim.Native.Nat.{ℕ, _-_, _<_}
@@ -97,7 +98,8 @@ nest-through s mid to k n h l = rw (read-through s headFields 0 mid noNest k h, 
 nest-read : (s : List ℕ) (to : ℕ) (n : Nest) → InRange n → Tidy n → Stands s 0 (nestBytes n) to → nestAt s ≡ wholeAt s n to
 nest-read s to n r d h = let q = standing s to n r d h in nest-through s (q .0) to (q .1) n (q .2) (q .3)
 
-all-stand : (s l : List ℕ) → s ≡ l → Stands s 0 l (length s)
+-- bytes that are a list stand from the first to the last
+pub all-stand : (s l : List ℕ) → s ≡ l → Stands s 0 l (length s)
 all-stand s l e =
     let z : length s - 0 ≡ length s = omega arith in
     record { bytes = ap (λ n. take n s) z ∙ take-length s ∙ e; behind = omega (arith, ap length e); within = omega arith }

@@ -53,7 +53,7 @@ byte-of : (w k x : ℕ) → k ≤ x → x < k + w → Byte w (pos k) x
 byte-of w k x h l = record { least = record { le = le→leb k x h }; most = record { le = le→leb (suc x) (k + w) l } }
 
 -- two elements at 0 or more that share no byte
-pub free : (w : ℕ) (a b : ℤ) → 1 ≤ w → pos 0 ≤ℤ a → pos 0 ≤ℤ b → ((x : ℕ) → Byte w b x → Byte w a x → ⊥) → Free w (natural a) (natural b)
+free : (w : ℕ) (a b : ℤ) → 1 ≤ w → pos 0 ≤ℤ a → pos 0 ≤ℤ b → ((x : ℕ) → Byte w b x → Byte w a x → ⊥) → Free w (natural a) (natural b)
 free w (negsuc k) b o h l f = absurd (h .le)
 free w (pos k) (negsuc j) o h l f = absurd (l .le)
 free w (pos k) (pos j) o h l f = go (decLt j (k + w)) (decLt k (j + w)) (decLt k j)
@@ -72,7 +72,7 @@ getD-sets (x ∷ bytes) memory j i h =
     ∙ getD-set-other memory j i x 0 (⊎-elim (λ p e. omega arith) (λ p e. omega arith) h)
 
 -- a value apart from what was written
-pub value-sets : (w k : ℕ) (bytes memory : List ℕ) (j : ℕ) → (k + w ≤ j) ⊎ (j + length bytes ≤ k) → valueAt (sets memory j bytes) k w ≡ valueAt memory k w
+value-sets : (w k : ℕ) (bytes memory : List ℕ) (j : ℕ) → (k + w ≤ j) ⊎ (j + length bytes ≤ k) → valueAt (sets memory j bytes) k w ≡ valueAt memory k w
 unfolding valueAt
 value-sets zero k bytes memory j h = refl
 value-sets (suc w) k bytes memory j h =
@@ -91,6 +91,7 @@ width-some D = omega arith
 -- ---- one chunk
 
 module _ (m : Nest) (few : m .loops ≤ 7) (len : ℕ) where
+  -- its patterns
   abbrev b : Three
   b = threeOf m
 
@@ -98,6 +99,7 @@ module _ (m : Nest) (few : m .loops ≤ 7) (len : ℕ) where
   abbrev at : Access → List ℕ → ℕ
   at a v = spot (patternFor m a) (widthOf m) v
 
+  -- which is its place
   at-place : (a : Access) (v : List ℕ) → at a v ≡ natural (placeOf m a v)
   at-place a v = ap natural (place-address m a v few)
 
