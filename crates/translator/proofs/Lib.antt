@@ -1,1 +1,3 @@
+pub mod Nesting
 pub mod Visiting
+pub mod Promise3

@@ -1,0 +1,84 @@
+-- A nest's chunks in order are the plain loop.
+--
+--   plain-append, chunks-plain     visits in two parts; chunks in order
+--   chunks-nest, chunks-join       the chunks of the streams are those of the visits; joined, they are the visits
+--   none-in-chunk                  if no visit reads what an earlier one wrote, none reads what one of its chunk wrote
+use Prim.Native.Nat.{ℕ, zero, suc, _+_, _-_, _≤_}
+use mathlib.Core.Path.{_≡_, refl, sym, _∙_, ap, ap₂, subst}
+use mathlib.Core.List.{List, [], _∷_, _++_}
+use native.Mathlib.Omega.{arith}
+use lib.ListN.{length, take, drop, length-append, take-append-drop, List·getD-append}
+use lib.Seq.{drop-drop, drop-length, getD-append-add}
+use Rattle.engine.specs.Members.{Each, Ordered}
+use Rattle.engine.specs.GroupLaws.{join}
+use Rattle.engine.specs.ChunkLaws.{Covered, groups-join, chunkOf-front}
+use Rattle.engine.specs.InStep.{chunksDone}
+use Rattle.engine.specs.InStep as step
+use Rattle.translator.specs.Nests.{countAt, visits, visited, plainOver, couplingOf, visitGroups}
+use Rattle.translator.specs.NestSheets.{shapeOf}
+use Rattle.translator.specs.Promise3.{Inside, Apart, NoneRead, Chunks, NoneReadInChunk}
+use Rattle.translator.specs.DescriptorLaws.{visits-elements, chunk-same}
+use Rattle.translator.specs.PlainLaws.{threeOf, one-chunk}
+use Rattle.translator.specs.declared.nest.Nest.{Nest}
+
+module _ {A : Type 0} (z : A) (l k : List A) where
+  -- each of the first of two parts; of the second
+  each-front : (P : A → Type 0) → Each z P (l ++ k) → Each z P l
+  each-front P e j h = subst P (List·getD-append l k z j h) (e j (omega (arith, length-append l k)))
+
+  each-back : (P : A → Type 0) → Each z P (l ++ k) → Each z P k
+  each-back P e j h = subst P (getD-append-add l k j z) (e (length l + j) (omega (arith, length-append l k)))
+
+  -- any two of the first of two parts, the earlier first; of the second
+  ordered-front : (R : A → A → Type 0) → Ordered z R (l ++ k) → Ordered z R l
+  ordered-front R e i j p h =
+      rw (List·getD-append l k z i (omega arith), List·getD-append l k z j h) at (e i j p (omega (arith, length-append l k)))
+
+  ordered-back : (R : A → A → Type 0) → Ordered z R (l ++ k) → Ordered z R k
+  ordered-back R e i j p h =
+      rw (getD-append-add l k i z, getD-append-add l k j z) at (e (length l + i) (length l + j) (omega arith) (omega (arith, length-append l k)))
+
+-- visits in two parts
+pub plain-append : (m : Nest) (us vs : List (List ℕ)) (memory : List ℕ) → plainOver m memory (us ++ vs) ≡ plainOver m (plainOver m memory us) vs
+unfolding plainOver
+plain-append m [] vs memory = refl
+plain-append m (u ∷ us) vs memory = plain-append m us vs (visited m memory u)
+
+-- chunks in order are the visits of all of them
+pub chunks-plain : (m : Nest) → m .loops ≤ 7 → (len : ℕ) (gs : List (List (List ℕ))) (memory : List ℕ) → Each [] (Inside m len) (join gs) → Each [] (NoneRead m) gs
+    → chunksDone (threeOf m) memory gs ≡ plainOver m memory (join gs)
+unfolding chunksDone join plainOver
+chunks-plain m few len [] memory i h = refl
+chunks-plain m few len (vs ∷ gs) memory i h =
+    ap (λ y. chunksDone (threeOf m) y gs)
+    (one-chunk m few len vs memory (each-front [] vs (join gs) (Inside m len) i) (h 0 (omega arith)))
+    ∙ chunks-plain m few len gs (plainOver m memory vs) (each-back [] vs (join gs) (Inside m len) i) (λ g l. h (suc g) (omega arith))
+    ∙ sym (plain-append m vs (join gs) memory)
+
+module _ (m : Nest) (covers : Covered (m .loops) (couplingOf (m .coupled))) (lanes : ℕ) where
+  -- the chunks of the streams are those of the visits
+  pub chunks-nest : (n : ℕ) (gs : List (List (List ℕ))) → step.Chunks (shapeOf m) lanes n gs → Chunks m lanes n gs
+  unfolding step.Chunks Chunks
+  chunks-nest n [] c = c ∙ ap length (visits-elements m)
+  chunks-nest n (vs ∷ gs) c = (c .0 ∙ chunk-same m covers lanes n, c .1, chunks-nest (n + length vs) gs (c .2))
+
+  -- joined, they are the visits
+  pub chunks-join : (n : ℕ) (gs : List (List (List ℕ))) → Chunks m lanes n gs → drop n (visits m) ≡ join gs
+  unfolding Chunks join visits
+  chunks-join n [] c = ap (λ k. drop k (visits m)) c ∙ drop-length (visits m)
+  chunks-join n (vs ∷ gs) c =
+      let front : vs ≡ take (length vs) (drop n (visits m)) =
+      rw (← c .0, groups-join (countAt m) (m .loops) (couplingOf (m .coupled)) covers) at (chunkOf-front (visitGroups m) lanes n) in
+      sym (take-append-drop (length vs) (drop n (visits m)))
+      ∙ ap₂ _++_ (sym front) (drop-drop (length vs) n (visits m) ∙ chunks-join (n + length vs) gs (c .2))
+
+  -- of each of lists that are joined
+  each-part : (gs : List (List (List ℕ))) → NoneRead m (join gs) → Each [] (NoneRead m) gs
+  unfolding join
+  each-part [] h g l = absurd (omega arith)
+  each-part (vs ∷ gs) h zero l = ordered-front [] vs (join gs) (Apart m) h
+  each-part (vs ∷ gs) h (suc g) l = each-part gs (ordered-back [] vs (join gs) (Apart m) h) g (omega arith)
+
+  -- where no visit reads what an earlier one wrote, none reads what an earlier one of its chunk wrote
+  pub none-in-chunk : NoneRead m (visits m) → NoneReadInChunk m lanes
+  none-in-chunk h gs c = each-part gs (subst (NoneRead m) (chunks-join 0 gs c) h)
