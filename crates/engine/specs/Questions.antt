@@ -1,6 +1,6 @@
 -- The two questions: the flag of a dimension, and the end of stream.
 --
---   flagChecks, endChecks   why a question is refused
+--   flagChecks, endOfStreamChecks   why a question is refused
 --   askFlag, askEnd         what is answered
 use Prim.Native.Nat.{ℕ}
 use mathlib.Core.List.{List, [], _∷_}
