@@ -1,2 +1,3 @@
+pub mod Translating
 pub mod Nesting
 pub mod Visiting
