@@ -1,3 +1,4 @@
+pub mod Translating
 pub mod Nesting
 pub mod Visiting
 pub mod Promise3

@@ -13,6 +13,7 @@ pub mod NestNumbers
 pub mod NestStands
 pub mod RuleLaws
 pub mod NestingLaws
+pub mod RoomLaws
 pub mod Promise3
 pub mod DescriptorLaws
 pub mod PlainLaws

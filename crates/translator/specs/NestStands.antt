@@ -187,7 +187,8 @@ width-small letter.H = omega arith
 width-small letter.W = omega arith
 width-small letter.D = omega arith
 
-action-small : (a : Action) → actionCode a ≤ 7
+-- actions have codes from 0 to 7
+pub action-small : (a : Action) → actionCode a ≤ 7
 action-small action.Copy = omega arith
 action-small action.Add = omega arith
 action-small action.Subtract = omega arith
