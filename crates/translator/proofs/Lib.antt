@@ -2,3 +2,4 @@ pub mod Translating
 pub mod Nesting
 pub mod Visiting
 pub mod Promise3
+pub mod Promised
