@@ -21,7 +21,8 @@ use Rattle.engine.specs.FieldLaws.{stands-split}
 use Rattle.engine.specs.Promise1.{NumberAt}
 use Rattle.translator.specs.Fields.{Role, Field, width, loops, coupled, operation, count, term, base, stride, rangeOf, Holds, accessOf, put, numberIn}
 use Rattle.translator.specs.FieldLists.{All}
-use Rattle.translator.specs.PlaceLaws.{place, Sized, Fits, Based, put-sized, put-based, number-put, number-kept}
+use Rattle.translator.specs.PlaceLaws.{place, Sized, Fits, put-sized, number-put, number-kept}
+use Rattle.translator.specs.SameNests.{Based, put-based}
 use Rattle.translator.specs.FieldPlaces.{Fresh, Apart}
 use Rattle.translator.specs.Reading.{numbersBytes}
 use Rattle.translator.specs.Acceptance.{Stand}

@@ -26,7 +26,7 @@ use Rattle.translator.specs.Fields.{termOf}
 use Rattle.translator.specs.NestRules.{nonzeroOf}
 use Rattle.translator.specs.ModifierLaws.{modifiers-count}
 use Rattle.translator.specs.NestSheets.{behaviourOf, modifierOf, modifiersAt, modifiersFrom, modifiersOf, headerFor, dimensionOf, modifierOp, dimensionOps, streamOps, sheetOps, runOp, calculationOf, bytesOfAll, sheetOf}
-use Rattle.translator.specs.NestStands.{action-small}
+use Rattle.translator.specs.NestWritten.{action-small}
 use Rattle.translator.specs.declared.nest.Access.{Access}
 use Rattle.translator.specs.declared.nest.Nest.{Nest}
 
