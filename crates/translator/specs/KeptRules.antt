@@ -2,6 +2,7 @@
 --
 --   low-high-kept                the rule of 8
 --   rules-kept, rules-broken     a nest that no rule refuses; one that a rule refuses
+--   shape-checked, shape-accepted   the shape of an accepted nest passes the engine's checks
 use Prim.Native.Nat.{ℕ, zero, suc, _+_, _-_, _≤_, _<_}
 use mathlib.Core.Path.{_≡_, refl, sym, _∙_, ap, subst}
 use mathlib.Core.Logic.{_⊎_, inl, inr, _↔_}
@@ -16,13 +17,21 @@ use Rattle.codec.specs.declared.refusal.Refusal.{Refusal}
 use Rattle.codec.specs.declared.refusal.Refusal.the-variants.{TooMany, LowHigh, Product}
 use Rattle.engine.specs.Rules.{lastIndex, product}
 use Rattle.engine.specs.Checks.{firstOf}
+use Rattle.engine.specs.Configure.{uncovered}
+use Rattle.engine.specs.Good.{Ranged}
+use Rattle.engine.specs.Good
+use Rattle.engine.specs.ShapeCheck.{checkShape}
+use Rattle.engine.specs.ShapeLaws.{shape-passed}
 use Rattle.engine.specs.CalculationLaws.{never, or-false}
 use Rattle.engine.specs.declared.check.Why.the-variants.{Nothing, Because}
 use Rattle.translator.specs.NestRules.{nonzeroOf, highsFrom, highsOf, lastsOutside, highOf, lessOf, lowOrHighFrom, lowOrHigh, checksOf}
-use Rattle.translator.specs.Acceptance.{LowHighKept, Breaks, many, low-high, large}
+use Rattle.translator.specs.Acceptance.{Accepted, LowHighKept, Breaks, many, low-high, large}
 use Rattle.translator.specs.declared.nest.Nest.{Nest}
-use Rattle.translator.specs.RuleLaws.{lastsFrom}
+use Rattle.translator.specs.RuleLaws.{lastsFrom, shape-ranged, checks-shape}
+use Rattle.translator.specs.Nests.{couplingOf}
+use Rattle.translator.specs.NestSheets.{shapeOf}
 
+-- the highs of the loops from t + k on are the last ones
 drop-highs : (m : Nest) (k t n : ℕ) → k ≤ n → drop k (highsFrom m t n) ≡ highsFrom m (t + k) (n - k)
 unfolding highsFrom
 drop-highs m zero t n h =
@@ -48,6 +57,7 @@ record Kept (m : Nest) (t : ℕ) : Type 0 where
   low : lessOf m t ≤ getD (m .counts) t 0
   high : highOf m t ≤ 4096
 
+-- the rule holds of the loops from t on exactly if it holds of loop t and of those outside it
 kept-step : (m : Nest) (t n : ℕ) → t + suc n ≡ m .loops → (lowOrHighFrom m t (suc n) ≡ false) ↔ (Kept m t × (lowOrHighFrom m (suc t) n ≡ false))
 unfolding lowOrHighFrom
 kept-step m t n e = rw (outside-lasts m t n e) (there, back)
@@ -67,6 +77,7 @@ kept-step m t n e = rw (outside-lasts m t n e) (there, back)
     back : Kept m t × (lowOrHighFrom m (suc t) n ≡ false) → (low || high || lowOrHighFrom m (suc t) n) ≡ false
     back k = rw (le-ltb (getD (m .counts) t 0) (lessOf m t) (k .0 .low), le-ltb 4096 (highOf m t) (k .0 .high), k .1)
 
+-- of each of them
 kept-from : (m : Nest) (t n : ℕ) → t + n ≡ m .loops → lowOrHighFrom m t n ≡ false → (k : ℕ) → t ≤ k → k < m .loops → Kept m k
 kept-from m t zero e f k h l = absurd (omega arith)
 kept-from m t (suc n) e f k h l = go (decLt t k) (kept-from m (suc t) n (omega arith) (kept-step m t n e .0 f .1) k)
@@ -75,6 +86,7 @@ kept-from m t (suc n) e f k h l = go (decLt t k) (kept-from m (suc t) n (omega a
     go (yes q) ih = ih q l
     go (no q) ih = let z : t ≡ k = omega arith in subst (Kept m) z (kept-step m t n e .0 f .0)
 
+-- and it is enough that it does
 clear-from : (m : Nest) (t n : ℕ) → t + n ≡ m .loops → ((k : ℕ) → k < m .loops → Kept m k) → lowOrHighFrom m t n ≡ false
 unfolding lowOrHighFrom
 clear-from m t zero e h = refl
@@ -93,10 +105,12 @@ low-high-kept m = (
 abbrev AllKept : Nest → Type 0
 AllKept m = (nonzeroOf m ≤ 8) × LowHighKept m × (product (highsOf m) ≤ 1048576)
 
+-- then no rule refuses the nest
 kept-clear : (m : Nest) → AllKept m → firstOf (checksOf m) ≡ Nothing
 unfolding firstOf
 kept-clear m h = rw (le-ltb 8 (nonzeroOf m) (h .0), low-high-kept m .1 (h .1), le-ltb 1048576 (product (highsOf m)) (h .2))
 
+-- the rule of 8 refuses what it does not keep
 not-kept : (m : Nest) → ¬ LowHighKept m → lowOrHigh m ≡ true
 not-kept m h = go (lowOrHigh m) refl
   where
@@ -104,6 +118,7 @@ not-kept m h = go (lowOrHigh m) refl
     go true e = refl
     go false e = absurd (h (low-high-kept m .0 e))
 
+-- a rule that is broken refuses the nest
 broken-first : (m : Nest) (x : Refusal) → Breaks m x → firstOf (checksOf m) ≡ Because x
 unfolding firstOf
 broken-first m x (many e h) = rw (lt-ltb 8 (nonzeroOf m) h, e)
@@ -137,3 +152,20 @@ rules-broken m x = (λ e. go e (kept-or-broken m), broken-first m x)
     go : firstOf (checksOf m) ≡ Because x → AllKept m ⊎ ((y : Refusal) × Breaks m y) → Breaks m x
     go e (inl k) = absurd (let f = kept-clear m k in let z : _≡_ {A = ℕ} 0 1 = cc in omega arith)
     go e (inr (y, k)) = let f = broken-first m y k in let z : y ≡ x = cc in subst (Breaks m) z k
+
+-- ---- accepted
+
+-- the shape of an accepted nest passes the checks of shapes
+pub shape-checked : (m : Nest) → Accepted m → checkShape (shapeOf m) ≡ Nothing
+shape-checked m a = sym (checks-shape m (a .range) (a .tidy)) ∙ rules-kept m .1 (a .few, a .low-high, a .small)
+
+-- and end accepts it
+pub shape-accepted : (m : Nest) → Accepted m → Good.Accepted (shapeOf m)
+shape-accepted m a =
+    let r : Ranged (shapeOf m) = shape-ranged m (a .range) (a .tidy) (a .few) in
+    let p = shape-passed (shapeOf m) r (a .range .loops-least) (shape-checked m a) in
+    record { ranged = r; some = a .range .loops-least; covered = covered (m .coupled) (a .range .coupled); bounded = p .0; few = p .1 }
+  where
+    covered : (c : ℕ) → c ≤ m .loops → uncovered (shapeOf m) (couplingOf c) ≡ false
+    covered zero h = refl
+    covered (suc c) h = le-ltb (m .loops) (suc c) h

@@ -38,6 +38,7 @@ none-sized (suc (suc (suc (suc zero)))) = refl
 none-sized (suc (suc (suc (suc (suc zero))))) = refl
 none-sized (suc (suc (suc (suc (suc (suc p)))))) = refl
 
+-- and bases of 0
 pub none-based : (a : Role) → Based (accessOf a noNest)
 none-based first = refl
 none-based second = refl
@@ -47,9 +48,11 @@ none-based destination = refl
 abbrev pub Ranged : Nest → ℕ → Field → Type 0
 Ranged n D f = Holds (rangeOf D f) (numberIn f n)
 
+-- a signed number in its range, from how it is written
 reached : (z : ℤ) → natAbs (signedOf (unsignedOf z)) ≤ 1048576 → natAbs z ≤ 1048576
 reached z h = rw signed-unsigned at h
 
+-- the numbers of an access
 access-ranged : (n : Nest) (D : ℕ) (a : Role) → Based (accessOf a n) → OfAccess (Ranged n D) D a → AccessInRange D (accessOf a n)
 access-ranged n D a b h = record {
   base-least = rw (← b) (nonneg-plain (pos (natAbs (accessOf a n .base .0))) .0 refl);
@@ -57,12 +60,13 @@ access-ranged n D a b h = record {
   strides = λ d u. reached (getD (accessOf a n .strides) d noElements .0) (h .strides d u);
 }
 
--- no number yet: all are 0
+-- every stride of it is 0
 pub none-stride : (a : Role) (d : ℕ) → d < 7 → numberIn (stride a d) noNest ≡ 0
 none-stride first d h = ap strideNumber (getD-replicate 7 d noElements noElements h)
 none-stride second d h = ap strideNumber (getD-replicate 7 d noElements noElements h)
 none-stride destination d h = ap strideNumber (getD-replicate 7 d noElements noElements h)
 
+-- and every term
 pub none-term : (t o : ℕ) → t < 7 → o < 7 → numberIn (term t o) noNest ≡ 0
 none-term t o h k = ap unsignedOf (getD-replicate 49 (termPlace t o) (pos 0) (pos 0) (omega arith))
 

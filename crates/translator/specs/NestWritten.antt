@@ -36,6 +36,7 @@ use Rattle.translator.specs.declared.nest.Access.{Access}
 use Rattle.translator.specs.declared.nest.Nest.{Nest}
 use Rattle.translator.specs.NestStands.{none-sized, none-based, none-term, none-stride, Ranged}
 
+-- widths have codes from 0 to 3
 width-small : (w : Width) → widthCode w ≤ 3
 width-small letter.B = omega arith
 width-small letter.H = omega arith
@@ -53,9 +54,11 @@ action-small action.Xor = omega arith
 action-small action.Smaller = omega arith
 action-small action.Larger = omega arith
 
+-- a base in its range is 0 or more
 based : (D : ℕ) (x : Access) → AccessInRange D x → Based x
 based D x h = pos-natAbs (x .base .0) (yes-nonNeg (h .base-least))
 
+-- the numbers of an access are in their ranges
 of-access : (n : Nest) (D : ℕ) (a : Role) → AccessInRange D (accessOf a n) → OfAccess (Ranged n D) D a
 of-access n D a h =
     let b : pos (natAbs (accessOf a n .base .0)) ≤ℤ pos 1048576 = subst (λ z. z ≤ℤ pos 1048576) (sym (based D (accessOf a n) h)) (h .base-most) in
@@ -64,6 +67,7 @@ of-access n D a h =
       strides = λ d u. rw (signed-unsigned (getD (accessOf a n .strides) d noElements .0)) (h .strides d u);
     }
 
+-- each access of a nest in range
 access-in : (n : Nest) → InRange n → (a : Role) → AccessInRange (n .loops) (accessOf a n)
 access-in n r first = r .first
 access-in n r second = r .second
@@ -90,6 +94,7 @@ ranged-all n r = (
   ),
 )
 
+-- the lists of a tidy nest
 tidy-long : (n : Nest) → Tidy n → Long n
 tidy-long n d = record { counts = d .counts-long; terms = d .terms-long; strides = strides }
   where
@@ -100,41 +105,51 @@ tidy-long n d = record { counts = d .counts-long; terms = d .terms-long; strides
 
 -- a nest in range and tidy is its numbers, put into none
 module _ (s : List ℕ) (to : ℕ) (n : Nest) (r : InRange n) (d : Tidy n) where
+  -- its fields
   abbrev fields : List Field
   fields = fieldsOf (n .loops)
 
+  -- the nest that its numbers give
   abbrev again : Nest
   again = copied fields noNest n
 
+  -- what they leave
   kept : (g : Field) → Fresh (place g) fields → numberIn g again ≡ numberIn g noNest
   kept = copied-kept n (n .loops) fields noNest (ranged-all n r)
 
+  -- what they give
   there : All (λ f. numberIn f again ≡ numberIn f n) fields
   there = copied-there n (n .loops) fields noNest (ranged-all n r) none-sized (fields-apart (n .loops) (r .loops-most)) (fields-fit (n .loops) (r .loops-most))
 
+  -- by loops and accesses
   each : EachField (λ f. numberIn f again ≡ numberIn f n) (n .loops)
   unfolding All
   each = all-rest (λ f. numberIn f again ≡ numberIn f n) (n .loops) .0 (there .1 .1 .1 .1)
 
+  -- a count: of a loop that is there, or 0
   count-same : (t : ℕ) → t < 7 → Dec (t < n .loops) → numberIn (count t) again ≡ numberIn (count t) n
   count-same t u (yes q) = each .loops t q .count
   count-same t u (no q) =
       kept (count t) (count-fresh (n .loops) t (omega arith) u) ∙ getD-replicate 7 t 0 0 u ∙ sym (d .counts t (omega arith))
 
+  -- a term that no loop uses is 0
   term-unused : (t o : ℕ) → t < 7 → o < 7 → (o ≤ t) ⊎ (n .loops ≤ o) → numberIn (term t o) again ≡ numberIn (term t o) n
   term-unused t o u v x =
       kept (term t o) (term-fresh (n .loops) t o (r .loops-most) u v x) ∙ none-term t o u v ∙ sym (ap unsignedOf (d .terms t o u v x))
 
+  -- a term
   term-same : (t o : ℕ) → t < 7 → o < 7 → Dec (t < o) → Dec (o < n .loops) → numberIn (term t o) again ≡ numberIn (term t o) n
   term-same t o u v (yes p) (yes q) = each .loops t (omega arith) .terms o p q
   term-same t o u v (yes p) (no q) = term-unused t o u v (inr (omega arith))
   term-same t o u v (no p) q = term-unused t o u v (inl (omega arith))
 
+  -- a stride that no loop uses
   tidy-stride : (a : Role) (k : ℕ) → n .loops ≤ k → getD (accessOf a n .strides) k noElements ≡ noElements
   tidy-stride first = d .first
   tidy-stride second = d .second
   tidy-stride destination = d .destination
 
+  -- a stride
   stride-same : (a : Role) (k : ℕ) → k < 7 → Dec (k < n .loops) → numberIn (stride a k) again ≡ numberIn (stride a k) n
   stride-same a k u (yes q) = each .accesses a .strides k q
   stride-same a k u (no q) =

@@ -98,6 +98,7 @@ nest-through s mid to k n h l = rw (read-through s headFields 0 mid noNest k h, 
 nest-read : (s : List ℕ) (to : ℕ) (n : Nest) → InRange n → Tidy n → Stands s 0 (nestBytes n) to → nestAt s ≡ wholeAt s n to
 nest-read s to n r d h = let q = standing s to n r d h in nest-through s (q .0) to (q .1) n (q .2) (q .3)
 
+-- a list stands in itself
 all-stand : (s l : List ℕ) → s ≡ l → Stands s 0 l (length s)
 all-stand s l e =
     let z : length s - 0 ≡ length s = omega arith in

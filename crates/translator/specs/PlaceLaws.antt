@@ -101,17 +101,20 @@ number-there (stride destination d) m = List·getD-map strideNumber (m .destinat
 abbrev setIn : List (List ℕ) → ℕ → ℕ → ℕ → List (List ℕ)
 setIn l p i n = set l p (set (getD l p []) i n)
 
+-- a mapped list with a member changed
 map-set : {A B : Type 0} (f : A → B) (l : List A) (i : ℕ) (a : A) → map f (set l i a) ≡ set (map f l) i (f a)
 map-set f [] i a = refl
 map-set f (x ∷ l) zero a = refl
 map-set f (x ∷ l) (suc i) a = ap (λ k. f x ∷ k) (map-set f l i a)
 
+-- the code of a coded width
 width-coded : (n : ℕ) → n ≤ 3 → widthCode (widthCoded n) ≡ n
 width-coded zero h = refl
 width-coded (suc zero) h = refl
 width-coded (suc (suc zero)) h = refl
 width-coded (suc (suc (suc n))) h = omega arith
 
+-- the code of a coded action
 action-coded : (n : ℕ) → n ≤ 7 → actionCode (actionCoded n) ≡ n
 action-coded zero h = refl
 action-coded (suc zero) h = refl
@@ -122,9 +125,11 @@ action-coded (suc (suc (suc (suc (suc zero))))) h = refl
 action-coded (suc (suc (suc (suc (suc (suc zero)))))) h = refl
 action-coded (suc (suc (suc (suc (suc (suc (suc n))))))) h = omega arith
 
+-- a term put in, as a number
 terms-put : (ts : List ℤ) (i n : ℕ) → map unsignedOf (set ts i (signedOf n)) ≡ set (map unsignedOf ts) i n
 terms-put ts i n = map-set unsignedOf ts i (signedOf n) ∙ ap (set (map unsignedOf ts) i) (unsigned-signed n)
 
+-- a stride put in, as a number
 strides-put : (es : List Elements) (i n : ℕ) → map strideNumber (set es i (record { 0 = signedOf n })) ≡ set (map strideNumber es) i n
 strides-put es i n = map-set strideNumber es i (record { 0 = signedOf n }) ∙ ap (set (map strideNumber es) i) (unsigned-signed n)
 
@@ -157,6 +162,7 @@ Sized m = (p : ℕ) → length (getD (partsOf m) p []) ≡ getD sizes p 0
 abbrev pub Fits : Field → Type 0
 Fits f = indexOf f < getD sizes (partOf f) 0
 
+-- every list stays as long as it was
 in-length : (l : List (List ℕ)) (p i n q : ℕ) → length (getD (setIn l p i n) q []) ≡ length (getD l q [])
 in-length [] p i n q = refl
 in-length (x ∷ l) zero i n zero = length-set x i n
@@ -164,11 +170,13 @@ in-length (x ∷ l) zero i n (suc q) = refl
 in-length (x ∷ l) (suc p) i n zero = refl
 in-length (x ∷ l) (suc p) i n (suc q) = in-length l p i n q
 
+-- the number stands where it was put
 in-same : (l : List (List ℕ)) (p i n : ℕ) → i < length (getD l p []) → getD (getD (setIn l p i n) p []) i 0 ≡ n
 in-same [] p i n h = absurd (omega arith)
 in-same (x ∷ l) zero i n h = getD-set-same x i n 0 h
 in-same (x ∷ l) (suc p) i n h = in-same l p i n h
 
+-- all others stand where they stood
 in-other : (l : List (List ℕ)) (p i n q j : ℕ) → (p ≡ q → i ≡ j → ⊥) → getD (getD (setIn l p i n) q []) j 0 ≡ getD (getD l q []) j 0
 in-other [] p i n q j h = refl
 in-other (x ∷ l) zero i n zero j h = getD-set-other x i j n 0 (λ e. h refl (sym e))

@@ -35,6 +35,7 @@ use Rattle.translator.specs.declared.nest.Nest.{Nest}
 
 -- ---- high and low
 
+-- there is one high for each loop
 highs-length : (m : Nest) (t n : ℕ) → length (highsFrom m t n) ≡ n
 unfolding highsFrom
 highs-length m t zero = refl
@@ -44,9 +45,11 @@ highs-length m t (suc n) = ap suc (highs-length m (suc t) n)
 abbrev pub lastsFrom : Nest → ℕ → ℕ → List ℕ
 lastsFrom m t n = map lastIndex (highsFrom m t n)
 
+-- the loops up to t and those outside it are all loops
 outside : (m : Nest) (t n : ℕ) → t + suc n ≡ m .loops → suc t + length (lastsFrom m (suc t) n) ≡ m .loops
 outside m t n e = omega (arith, length-map (highsFrom m (suc t) n) lastIndex, highs-length m (suc t) n)
 
+-- a difference is negative exactly if more is taken than is there
 negative : (a b : ℕ) → not (nonNeg (subℕ a b)) ≡ ltb a b
 negative a b = go (ltb a b) refl
   where

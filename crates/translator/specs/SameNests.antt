@@ -31,12 +31,14 @@ use Rattle.translator.specs.PlaceLaws.{Sized, accessNumbers, strideNumbe
 abbrev pub Based : Access → Type 0
 Based a = pos (natAbs (a .base .0)) ≡ a .base .0
 
+-- an access of a nest whose other numbers change
 access-kept : (a : Role) (w : Width) (D c : ℕ) (o : Action) (counts : List ℕ) (terms : List ℤ) (m : Nest)
     → accessOf a (nestOf w D c o counts terms (m .first) (m .second) (m .destination)) ≡ accessOf a m
 access-kept first w D c o counts terms m = refl
 access-kept second w D c o counts terms m = refl
 access-kept destination w D c o counts terms m = refl
 
+-- of a nest in which an access is put
 with-based : (b a : Role) (x : Access) (m : Nest) → Based x → Based (accessOf a m) → Based (accessOf a (withAccess b x m))
 with-based first first x m h k = h
 with-based first second x m h k = k
@@ -62,12 +64,14 @@ put-based (stride b d) n m h a = with-based b a (withStride d (signedOf n) (acce
 
 -- ---- nests by their numbers
 
+-- the width of a code
 width-back : (w : Width) → widthCoded (widthCode w) ≡ w
 width-back letter.B = refl
 width-back letter.H = refl
 width-back letter.W = refl
 width-back letter.D = refl
 
+-- the action of a code
 action-back : (a : Action) → actionCoded (actionCode a) ≡ a
 action-back action.Copy = refl
 action-back action.Add = refl
@@ -82,6 +86,7 @@ action-back action.Larger = refl
 pub signed-same : (x y : ℤ) → unsignedOf x ≡ unsignedOf y → x ≡ y
 signed-same x y e = sym (signed-unsigned x) ∙ ap signedOf e ∙ signed-unsigned y
 
+-- two accesses of the same numbers are the same
 access-same : (x y : Access) → Based x → Based y → length (x .strides) ≡ 7 → length (y .strides) ≡ 7 → natAbs (x .base .0) ≡ natAbs (y .base .0)
     → ((d : ℕ) → d < 7 → unsignedOf (getD (x .strides) d noElements .0) ≡ unsignedOf (getD (y .strides) d noElements .0)) → x ≡ y
 access-same x y b c l k e h = λ i. record { base = record { 0 = base-same i }; strides = strides-same i }
