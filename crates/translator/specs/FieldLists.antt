@@ -3,7 +3,7 @@
 --   All                                  what holds of each field of a list
 --   all-append, all-front, all-back      of two lists joined
 --   all-terms, all-strides, all-loops    of terms, strides and loops: exactly if it holds of each by its indices
---   EachField, all-rest                  of all numbers behind the first four
+--   OfLoop, OfAccess, EachField, all-rest                  of all numbers behind the first four
 use Prim.Native.Nat.{ℕ, zero, suc, _+_, _≤_, _<_}
 use mathlib.Core.Path.{_≡_, subst}
 use mathlib.Core.Logic.{_↔_}
@@ -32,11 +32,13 @@ module _ (P : Field → Type 0) where
   all-append [] ys h k = k
   all-append (x ∷ xs) ys h k = (h .0, all-append xs ys (h .1) k)
 
+  -- of the first of two lists
   pub all-front : (xs ys : List Field) → All (xs ++ ys) → All xs
   unfolding All
   all-front [] ys h = tt
   all-front (x ∷ xs) ys h = (h .0, all-front xs ys (h .1))
 
+  -- of the second
   pub all-back : (xs ys : List Field) → All (xs ++ ys) → All ys
   unfolding All
   all-back [] ys h = h

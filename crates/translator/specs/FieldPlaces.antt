@@ -1,9 +1,8 @@
 -- The numbers of a nest stand at different places.
 --
 --   Fresh, Apart                 no field of a list at a place; no two of them at one place
---   apart-append, apart-join     two lists joined
 --   fields-apart, fields-fit     the fields of a nest stand apart, and each has a place
---   EachPlace, rest-fresh        places at which none of the numbers behind the first four stands
+--   count-fresh, term-fresh, stride-fresh, loops-fresh   places at which none of them stands
 use Prim.Native.Nat.{ℕ, zero, suc, _+_, _*_, _≤_, _<_}
 use mathlib.Core.Path.{_≡_, refl}
 use mathlib.Core.Logic.{_⊎_, inl, inr}
@@ -23,6 +22,7 @@ unfoldable pub Apart : List Field → Type 0
 Apart [] = Unit {0}
 Apart (f ∷ fs) = Fresh (place f) fs × Apart fs
 
+-- what follows holds of each too
 all-map : (P Q : Field → Type 0) → ((f : Field) → P f → Q f) → (fs : List Field) → All P fs → All Q fs
 unfolding All
 all-map P Q h [] k = tt
@@ -43,21 +43,25 @@ apart-join k xs ys a b h l =
 
 -- ---- the fields of a nest
 
+-- the terms of a loop
 terms-apart : (t o n : ℕ) → Apart (termFields t o n)
 unfolding All Apart termFields
 terms-apart t o zero = tt
 terms-apart t o (suc n) = (all-terms (λ f. place f ≡ place (term t o) → ⊥) t (suc o) n .1 (λ k l u e. omega arith), terms-apart t (suc o) n)
 
+-- strides
 strides-apart : (a : Role) (d n : ℕ) → Apart (strideFields a d n)
 unfolding All Apart strideFields
 strides-apart a d zero = tt
 strides-apart a d (suc n) =
     (all-strides (λ f. place f ≡ place (stride a d) → ⊥) a (suc d) n .1 (λ k l u e. omega arith), strides-apart a (suc d) n)
 
+-- an access
 access-apart : (a : Role) (D : ℕ) → Apart (accessFields a D)
 unfolding All Apart
 access-apart a D = (all-strides (λ f. place f ≡ place (base a) → ⊥) a 0 D .1 (λ k l u e. omega arith), strides-apart a 0 D)
 
+-- loops
 loops-apart : (t n : ℕ) → t + n ≤ 7 → Apart (loopFields t n)
 unfolding All Apart loopFields
 loops-apart t zero h = tt
@@ -76,6 +80,7 @@ loops-apart t (suc n) h =
         all-loops (λ g. place g ≡ place f → ⊥) (suc t) n (suc t + n) refl .1
         (λ k l u. record { count = c k l (omega arith); terms = λ o v w. d k o l v (omega arith) })
 
+-- the parts of accesses are the last three
 part-least : (a : Role) → 3 ≤ accessPart a
 part-least first = omega arith
 part-least second = omega arith
@@ -91,6 +96,7 @@ access-places : (P : ℕ → Type 0) (a : Role) (D : ℕ) → ((i : ℕ) → i �
 access-places P a D k =
     all-access (λ f. P (place f)) D a .1 (record { base = k 0 (omega arith); strides = λ d u. k (suc d) (omega arith) })
 
+-- all three accesses
 accesses-apart : (D : ℕ) → D ≤ 7 → Apart (accessFields first D ++ (accessFields second D ++ accessFields destination D))
 accesses-apart D h =
     apart-join 256 (accessFields first D) (accessFields second D ++ accessFields destination D)
@@ -103,6 +109,7 @@ accesses-apart D h =
     (access-places (λ k. 256 ≤ k) second D (λ i u. omega arith))
     (access-places (λ k. 256 ≤ k) destination D (λ i u. omega arith)))
 
+-- all behind the first four
 rest-apart : (D : ℕ) → D ≤ 7 → Apart (restFields D)
 rest-apart D h =
     apart-join 192 (loopFields 0 D) (accessFields first D ++ (accessFields second D ++ accessFields destination D))
@@ -140,6 +147,7 @@ fields-apart D h =
     low : All (λ f. place f < 4) headFields
     low = (omega arith, (omega arith, (omega arith, (omega arith, tt))))
 
+-- an access has eight places
 access-fits : (a : Role) (i : ℕ) → i < 8 → i < getD sizes (accessPart a) 0
 access-fits first i h = h
 access-fits second i h = h
@@ -165,6 +173,7 @@ head-fresh : (k : ℕ) → 4 ≤ k → Fresh k headFields
 unfolding All
 head-fresh k h = (λ e. omega arith, (λ e. omega arith, (λ e. omega arith, (λ e. omega arith, tt))))
 
+-- a place behind the first four at which none of the others stands
 fields-fresh : (D k : ℕ) → 4 ≤ k → Fresh k (restFields D) → Fresh k (fieldsOf D)
 fields-fresh D k h r = all-append (λ f. place f ≡ k → ⊥) headFields (restFields D) (head-fresh k h) r
 

@@ -1,6 +1,7 @@
 pub mod Fields
 pub mod FieldLists
 pub mod PlaceLaws
+pub mod SameNests
 pub mod FieldPlaces
 pub mod Nests
 pub mod NestRules
@@ -11,7 +12,9 @@ pub mod Translation
 pub mod Acceptance
 pub mod NestNumbers
 pub mod NestStands
+pub mod NestWritten
 pub mod RuleLaws
+pub mod KeptRules
 pub mod NestingLaws
 pub mod RoomLaws
 pub mod Promise3

@@ -42,22 +42,26 @@ module _ (m : Nest) (b : Behaviour) (d : ℕ) (outer : List ℕ) where
   abbrev does : ℕ → ℕ → ℕ
   does o t = cond (eqb t d) (amountOf b (termOf m t o) * getD outer (o - suc d) 0) 0
 
+  -- a displacement times k, of a modifier of one behaviour, is the amount of its term times k
   behaved : (c : Behaviour) (z : ℤ) (k : ℕ) → cond (sameBehaviour (behaviourOf z) c) (k * natAbs z) 0 ≡ amountOf c z * k
   behaved Add (pos n) k = mul-comm k n
   behaved Add (negsuc n) k = omega arith
   behaved Subtract (pos n) k = omega arith
   behaved Subtract (negsuc n) k = mul-comm k (suc n)
 
+  -- the modifier of a term does what the term does
   modifier-does : (o t : ℕ) → gainOf Size b d outer (modifierOf m o t) ≡ does o t
   unfolding gainOf
   modifier-does o t = ap (λ k. cond (eqb t d) k 0) (behaved b (termOf m t o) (getD outer (o - suc d) 0))
 
+  -- a term of 0 does nothing
   none-does : (c : Behaviour) (z : ℤ) (k : ℕ) (t : Bool) → natAbs z ≡ 0 → cond t (amountOf c z * k) 0 ≡ 0
   none-does c z k false e = refl
   none-does Add (pos n) k true e = ap (λ i. i * k) e ∙ omega arith
   none-does Subtract (pos n) k true e = omega arith
   none-does c (negsuc n) k true e = absurd (omega arith)
 
+  -- one target more
   at-step : (o t n : ℕ) → gain Size b d outer (modifiersAt m o t (suc n)) ≡ does o t + gain Size b d outer (modifiersAt m o (suc t) n)
   unfolding gain modifiersAt
   at-step o t n = go (eqb (natAbs (termOf m t o)) 0) refl
@@ -90,6 +94,7 @@ module _ (m : Nest) (b : Behaviour) (d : ℕ) (outer : List ℕ) where
           ap (λ k. amountOf b (termOf m k o) * getD outer (o - suc d) 0) e in
           rw (eq-eqb t d e, at-others o (suc t) n (λ k p q r. omega arith)) (omega arith)
 
+  -- modifiers joined
   gain-append : (xs ys : List Modifier) → gain Size b d outer (xs ++ ys) ≡ gain Size b d outer xs + gain Size b d outer ys
   unfolding gain
   gain-append [] ys = omega arith
@@ -130,6 +135,7 @@ total-gain m b d outer e =
 
 -- ---- how many, and which
 
+-- those that loop o owns
 at-count : (m : Nest) (o t n : ℕ) → length (modifiersAt m o t n) ≡ nonzeroFor m o t n
 unfolding modifiersAt nonzeroFor
 at-count m o t zero = refl
@@ -141,6 +147,7 @@ at-count m o t (suc n) = go (termOf m t o) (at-count m o (suc t) n)
     go (pos (suc k)) e = rw (ne-eqb (suc k) 0 (λ q. omega arith)) (omega arith)
     go (negsuc k) e = rw (ne-eqb (suc k) 0 (λ q. omega arith)) (omega arith)
 
+-- those of n loops from o on
 from-count : (m : Nest) (o n : ℕ) → length (modifiersFrom m o n) ≡ nonzeroFrom m o n
 unfolding modifiersFrom nonzeroFrom
 from-count m o zero = refl
@@ -156,21 +163,25 @@ pub modifiers-kept : (m : Nest) → Loops.modifiersOf (shapeOf m) ≡ modifiersO
 modifiers-kept m = take-append-seam (modifiersOf m) (replicate (8 - length (modifiersOf m)) noModifier)
 
 module _ (P : Modifier → Type 0) where
+  -- it holds of each modifier of a list
   Each : List Modifier → Type 0
   Each [] = Unit {0}
   Each (q ∷ qs) = P q × Each qs
 
+  -- of two lists joined
   each-append : (xs ys : List Modifier) → Each xs → Each ys → Each (xs ++ ys)
   unfolding Each
   each-append [] ys h k = k
   each-append (x ∷ xs) ys h k = (h .0, each-append xs ys (h .1) k)
 
+  -- of the member at a place
   each-at : (qs : List Modifier) → Each qs → (k : ℕ) → k < length qs → P (getD qs k noModifier)
   unfolding Each
   each-at [] h k l = absurd (omega arith)
   each-at (q ∷ qs) h zero l = h .0
   each-at (q ∷ qs) h (suc k) l = each-at qs (h .1) k (omega arith)
 
+  -- of those that loop o owns
   at-each : (m : Nest) (o t n : ℕ) → ((k : ℕ) → k < t + n → P (modifierOf m o k)) → Each (modifiersAt m o t n)
   unfolding Each modifiersAt
   at-each m o t zero h = tt
@@ -180,6 +191,7 @@ module _ (P : Modifier → Type 0) where
       go true e = e
       go false e = (h t (omega arith), e)
 
+  -- of those of n loops from o on
   from-each : (m : Nest) (o n : ℕ) → ((t k : ℕ) → t < k → k < o + n → P (modifierOf m k t)) → Each (modifiersFrom m o n)
   unfolding Each modifiersFrom
   from-each m o zero h = tt

@@ -21,7 +21,8 @@ use Rattle.engine.specs.FieldLaws.{stands-split}
 use Rattle.engine.specs.Promise1.{NumberAt}
 use Rattle.translator.specs.Fields.{Role, Field, width, loops, coupled, operation, count, term, base, stride, rangeOf, Holds, accessOf, put, numberIn}
 use Rattle.translator.specs.FieldLists.{All}
-use Rattle.translator.specs.PlaceLaws.{place, Sized, Fits, Based, put-sized, put-based, number-put, number-kept}
+use Rattle.translator.specs.PlaceLaws.{place, Sized, Fits, put-sized, number-put, number-kept}
+use Rattle.translator.specs.SameNests.{Based, put-based}
 use Rattle.translator.specs.FieldPlaces.{Fresh, Apart}
 use Rattle.translator.specs.Reading.{numbersBytes}
 use Rattle.translator.specs.Acceptance.{Stand}
@@ -43,12 +44,13 @@ stands-between s pre l post at to e f g =
       within = rw e (omega (arith, length-append pre (l ++ post), length-append l post));
     }
 
--- what stands as one stands side by side
+-- what stands as one stands side by side: the first part
 pub stands-front : (s l k : List ℕ) (at to : ℕ) → Stands s at (l ++ k) to → Stands s at l (at + length l)
 stands-front s l k at to h =
     let q = stands-split h in
     stands-between s (take at s) l (k ++ drop to s) at (at + length l) (q .0 ∙ simp append-assoc) (q .1) refl
 
+-- the second part
 pub stands-back : (s l k : List ℕ) (at to : ℕ) → Stands s at (l ++ k) to → Stands s (at + length l) k to
 stands-back s l k at to h =
     let q = stands-split h in
@@ -65,6 +67,7 @@ module _ (s : List ℕ) where
   stand-append [] ys at mid to m k n h l = subst (λ x. Stand s ys x m to n) (sym (h .0)) (subst (λ x. Stand s ys mid x to n) (sym (h .1)) l)
   stand-append (x ∷ xs) ys at mid to m k n h l = (h .0, h .1, h .2, h .3, stand-append xs ys (h .1) mid to (put x (h .0) m) k n (h .4) l)
 
+  -- and the other way
   pub stand-cut : (xs ys : List Field) (at to : ℕ) (m n : Nest) → Stand s (xs ++ ys) at m to n
       → (mid : ℕ) × (k : Nest) × Stand s xs at m mid k × Stand s ys mid k to n
   unfolding Stand
@@ -127,7 +130,7 @@ unfoldable pub copied : List Field → Nest → Nest → Nest
 copied [] m n = m
 copied (f ∷ fs) m n = copied fs (put f (numberIn f n) m) n
 
--- a number in its range is below 2^32
+-- a signed number in its range is below 2^32 as written
 reach-small : (v : ℕ) → natAbs (signedOf v) ≤ 1048576 → v < 4294967296
 reach-small v h = signed-range v .1 (go (signedOf v) h)
   where
@@ -135,6 +138,7 @@ reach-small v h = signed-range v .1 (go (signedOf v) h)
     go (pos n) h = omega arith
     go (negsuc n) h = omega arith
 
+-- so is any number in its range
 pub holds-small : (D : ℕ) (f : Field) (v : ℕ) → D ≤ 7 → Holds (rangeOf D f) v → v < 4294967296
 holds-small D width v d h = omega arith
 holds-small D loops v d h = omega arith

@@ -31,7 +31,8 @@ use Rattle.translator.specs.Nests.{couplingOf}
 use Rattle.translator.specs.NestSheets.{modifierOf, modifiersAt, modifiersFrom, modifiersOf, headerFor, dimensionOf, dimensionsFrom, streamOf, shapeOf, patternFor, modifierOp, dimensionOps, streamOps}
 use Rattle.translator.specs.Acceptance.{AccessInRange, InRange, Accepted}
 use Rattle.translator.specs.ModifierLaws.{modifiers-count}
-use Rattle.translator.specs.RuleLaws.{highs-same, low-high-same, low-high-kept}
+use Rattle.translator.specs.KeptRules.{low-high-kept}
+use Rattle.translator.specs.RuleLaws.{highs-same, low-high-same}
 use Rattle.translator.specs.DescriptorLaws.{couples}
 use Rattle.translator.specs.PatternLaws.{dimensions-long, TidyAccess, pattern-same}
 use Rattle.translator.specs.GivingLaws.{Offers, Gives, gives-first, gives-append}

@@ -33,8 +33,9 @@ use Rattle.engine.specs.declared.check.Why.{Why}
 use Rattle.engine.specs.declared.check.Why.the-variants.{Nothing, Because}
 use Rattle.translator.specs.Fields.{Field, headFields, restFields, Range, between, reach, rangeOf, holds, Holds, noNest, put}
 use Rattle.translator.specs.NestRules.{checksOf}
-use Rattle.translator.specs.RuleLaws.{rules-kept, rules-broken}
-use Rattle.translator.specs.NestStands.{stood, standing}
+use Rattle.translator.specs.KeptRules.{rules-kept, rules-broken}
+use Rattle.translator.specs.NestStands.{stood}
+use Rattle.translator.specs.NestWritten.{standing}
 use Rattle.translator.specs.Reading.{Read, upTo, readFrom, nest, unless, wholeAt, nestAt, nestBytes}
 use Rattle.translator.specs.Reading
 use Rattle.translator.specs.Acceptance.{InRange, Tidy, Accepted, Stand, Fault, AtFault, Refuses}

@@ -4,27 +4,22 @@
 --   place                        both as one number
 --   number-there                 the number that is in stands at its place
 --   put-parts                    to put a number in changes what stands at its place, and nothing else
---   Sized, put-sized             parts of the right lengths
+--   Sized, Fits, put-sized       parts of the right lengths, a number that has a place
 --   number-put, number-kept      the number that was put in; any other number
---   nests-same                   two nests of the same numbers are the same
-use Prim.Native.Nat.{ℕ, zero, suc, _+_, _*_, _/_, _%_, _≤_, _<_}
+use Prim.Native.Nat.{ℕ, zero, suc, _+_, _*_, _≤_, _<_}
 use mathlib.Core.Path.{_≡_, refl, sym, _∙_, ap}
 use mathlib.Core.List.{List, [], _∷_, map}
 use native.Mathlib.Omega.{arith}
-use lib.ListN.{length, getD, set, length-set, length-map, List·getD-map}
-use lib.Seq.{getD-set-same, getD-set-other, ext-getD}
+use lib.ListN.{length, getD, set, length-set, List·getD-map}
+use lib.Seq.{getD-set-same, getD-set-other}
 use lib.IntN.{ℤ, pos, natAbs}
 use Rattle.codec.specs.Numbers.{signedOf, unsignedOf}
-use Rattle.codec.specs.NumberLaws.{unsigned-signed, signed-unsigned}
+use Rattle.codec.specs.NumberLaws.{unsigned-signed}
 use Rattle.codec.specs.Headers.{widthCoded, widthCode}
 use Rattle.codec.specs.Operations.{actionCoded, actionCode}
-use Rattle.codec.specs.declared.header.Width.{Width}
-use Rattle.codec.specs.declared.header.Width.the-variants as letter
-use Rattle.codec.specs.declared.operation.Action.{Action}
-use Rattle.codec.specs.declared.operation.Action.the-variants as action
 use Rattle.codec.specs.declared.amounts.Elements.{Elements}
 use Rattle.engine.specs.Addresses.{noElements}
-use Rattle.translator.specs.Fields.{Role, first, second, destination, Field, width, loops, coupled, operation, count, term, base, stride, rangeOf, Holds, termPlace, accessOf, nestOf, withAccess, withBase, withStride, put, numberIn}
+use Rattle.translator.specs.Fields.{Role, first, second, destination, Field, width, loops, coupled, operation, count, term, base, stride, rangeOf, Holds, termPlace, put, numberIn}
 use Rattle.translator.specs.declared.nest.Access.{Access}
 use Rattle.translator.specs.declared.nest.Nest.{Nest}
 
@@ -34,7 +29,8 @@ use Rattle.translator.specs.declared.nest.Nest.{Nest}
 abbrev pub strideNumber : Elements → ℕ
 strideNumber e = unsignedOf (e .0)
 
-abbrev accessNumbers : Access → List ℕ
+-- the numbers of an access
+abbrev pub accessNumbers : Access → List ℕ
 accessNumbers a = natAbs (a .base .0) ∷ map strideNumber (a .strides)
 
 -- a nest's numbers: the first four, the counts, the terms, each access
@@ -105,17 +101,20 @@ number-there (stride destination d) m = List·getD-map strideNumber (m .destinat
 abbrev setIn : List (List ℕ) → ℕ → ℕ → ℕ → List (List ℕ)
 setIn l p i n = set l p (set (getD l p []) i n)
 
+-- a mapped list with a member changed
 map-set : {A B : Type 0} (f : A → B) (l : List A) (i : ℕ) (a : A) → map f (set l i a) ≡ set (map f l) i (f a)
 map-set f [] i a = refl
 map-set f (x ∷ l) zero a = refl
 map-set f (x ∷ l) (suc i) a = ap (λ k. f x ∷ k) (map-set f l i a)
 
+-- the code of a coded width
 width-coded : (n : ℕ) → n ≤ 3 → widthCode (widthCoded n) ≡ n
 width-coded zero h = refl
 width-coded (suc zero) h = refl
 width-coded (suc (suc zero)) h = refl
 width-coded (suc (suc (suc n))) h = omega arith
 
+-- the code of a coded action
 action-coded : (n : ℕ) → n ≤ 7 → actionCode (actionCoded n) ≡ n
 action-coded zero h = refl
 action-coded (suc zero) h = refl
@@ -126,9 +125,11 @@ action-coded (suc (suc (suc (suc (suc zero))))) h = refl
 action-coded (suc (suc (suc (suc (suc (suc zero)))))) h = refl
 action-coded (suc (suc (suc (suc (suc (suc (suc n))))))) h = omega arith
 
+-- a term put in, as a number
 terms-put : (ts : List ℤ) (i n : ℕ) → map unsignedOf (set ts i (signedOf n)) ≡ set (map unsignedOf ts) i n
 terms-put ts i n = map-set unsignedOf ts i (signedOf n) ∙ ap (set (map unsignedOf ts) i) (unsigned-signed n)
 
+-- a stride put in, as a number
 strides-put : (es : List Elements) (i n : ℕ) → map strideNumber (set es i (record { 0 = signedOf n })) ≡ set (map strideNumber es) i n
 strides-put es i n = map-set strideNumber es i (record { 0 = signedOf n }) ∙ ap (set (map strideNumber es) i) (unsigned-signed n)
 
@@ -161,6 +162,7 @@ Sized m = (p : ℕ) → length (getD (partsOf m) p []) ≡ getD sizes p 0
 abbrev pub Fits : Field → Type 0
 Fits f = indexOf f < getD sizes (partOf f) 0
 
+-- every list stays as long as it was
 in-length : (l : List (List ℕ)) (p i n q : ℕ) → length (getD (setIn l p i n) q []) ≡ length (getD l q [])
 in-length [] p i n q = refl
 in-length (x ∷ l) zero i n zero = length-set x i n
@@ -168,11 +170,13 @@ in-length (x ∷ l) zero i n (suc q) = refl
 in-length (x ∷ l) (suc p) i n zero = refl
 in-length (x ∷ l) (suc p) i n (suc q) = in-length l p i n q
 
+-- the number stands where it was put
 in-same : (l : List (List ℕ)) (p i n : ℕ) → i < length (getD l p []) → getD (getD (setIn l p i n) p []) i 0 ≡ n
 in-same [] p i n h = absurd (omega arith)
 in-same (x ∷ l) zero i n h = getD-set-same x i n 0 h
 in-same (x ∷ l) (suc p) i n h = in-same l p i n h
 
+-- all others stand where they stood
 in-other : (l : List (List ℕ)) (p i n q j : ℕ) → (p ≡ q → i ≡ j → ⊥) → getD (getD (setIn l p i n) q []) j 0 ≡ getD (getD l q []) j 0
 in-other [] p i n q j h = refl
 in-other (x ∷ l) zero i n zero j h = getD-set-other x i j n 0 (λ e. h refl (sym e))
@@ -200,137 +204,3 @@ number-kept f g n m D h u =
     ∙ ap (λ l. getD (getD l (partOf g) []) (indexOf g) 0) (put-parts f n m D h)
     ∙ in-other (partsOf m) (partOf f) (indexOf f) n (partOf g) (indexOf g) (λ e i. u (λ j. 64 * e j + i j))
     ∙ number-there g m
-
--- ---- bases
-
--- an access whose base is 0 or more
-abbrev pub Based : Access → Type 0
-Based a = pos (natAbs (a .base .0)) ≡ a .base .0
-
-access-kept : (a : Role) (w : Width) (D c : ℕ) (o : Action) (counts : List ℕ) (terms : List ℤ) (m : Nest)
-    → accessOf a (nestOf w D c o counts terms (m .first) (m .second) (m .destination)) ≡ accessOf a m
-access-kept first w D c o counts terms m = refl
-access-kept second w D c o counts terms m = refl
-access-kept destination w D c o counts terms m = refl
-
-with-based : (b a : Role) (x : Access) (m : Nest) → Based x → Based (accessOf a m) → Based (accessOf a (withAccess b x m))
-with-based first first x m h k = h
-with-based first second x m h k = k
-with-based first destination x m h k = k
-with-based second first x m h k = k
-with-based second second x m h k = h
-with-based second destination x m h k = k
-with-based destination first x m h k = k
-with-based destination second x m h k = k
-with-based destination destination x m h k = h
-
--- they stay so
-pub put-based : (f : Field) (n : ℕ) (m : Nest) → ((a : Role) → Based (accessOf a m)) → (a : Role) → Based (accessOf a (put f n m))
-put-based width n m h a = rw (access-kept a (widthCoded n) (m .loops) (m .coupled) (m .action) (m .counts) (m .terms) m) (h a)
-put-based loops n m h a = rw (access-kept a (m .width) n (m .coupled) (m .action) (m .counts) (m .terms) m) (h a)
-put-based coupled n m h a = rw (access-kept a (m .width) (m .loops) n (m .action) (m .counts) (m .terms) m) (h a)
-put-based operation n m h a = rw (access-kept a (m .width) (m .loops) (m .coupled) (actionCoded n) (m .counts) (m .terms) m) (h a)
-put-based (count t) n m h a = rw (access-kept a (m .width) (m .loops) (m .coupled) (m .action) (set (m .counts) t n) (m .terms) m) (h a)
-put-based (term t o) n m h a =
-    rw (access-kept a (m .width) (m .loops) (m .coupled) (m .action) (m .counts) (set (m .terms) (termPlace t o) (signedOf n)) m) (h a)
-put-based (base b) n m h a = with-based b a (withBase n (accessOf b m)) m refl (h a)
-put-based (stride b d) n m h a = with-based b a (withStride d (signedOf n) (accessOf b m)) m (h b) (h a)
-
--- ---- nests by their numbers
-
-width-back : (w : Width) → widthCoded (widthCode w) ≡ w
-width-back letter.B = refl
-width-back letter.H = refl
-width-back letter.W = refl
-width-back letter.D = refl
-
-action-back : (a : Action) → actionCoded (actionCode a) ≡ a
-action-back action.Copy = refl
-action-back action.Add = refl
-action-back action.Subtract = refl
-action-back action.And = refl
-action-back action.Or = refl
-action-back action.Xor = refl
-action-back action.Smaller = refl
-action-back action.Larger = refl
-
--- two signed numbers that are written as one are one
-pub signed-same : (x y : ℤ) → unsignedOf x ≡ unsignedOf y → x ≡ y
-signed-same x y e = sym (signed-unsigned x) ∙ ap signedOf e ∙ signed-unsigned y
-
-access-same : (x y : Access) → Based x → Based y → length (x .strides) ≡ 7 → length (y .strides) ≡ 7 → natAbs (x .base .0) ≡ natAbs (y .base .0)
-    → ((d : ℕ) → d < 7 → unsignedOf (getD (x .strides) d noElements .0) ≡ unsignedOf (getD (y .strides) d noElements .0)) → x ≡ y
-access-same x y b c l k e h = λ i. record { base = record { 0 = base-same i }; strides = strides-same i }
-  where
-    base-same : x .base .0 ≡ y .base .0
-    base-same = sym b ∙ ap pos e ∙ c
-
-    strides-same : x .strides ≡ y .strides
-    strides-same =
-        ext-getD noElements (x .strides) (y .strides) (l ∙ sym k)
-        (λ d u. λ i. record { 0 = signed-same (getD (x .strides) d noElements .0) (getD (y .strides) d noElements .0) (h d (omega arith)) i })
-
--- the lengths of a nest's lists
-pub record Long (m : Nest) : Type 0 where
-  pub counts : length (m .counts) ≡ 7
-  pub terms : length (m .terms) ≡ 49
-  pub strides : (a : Role) → length (accessOf a m .strides) ≡ 7
-
--- a number for loops among the seven
-abbrev pub Proper : Field → Type 0
-Proper width = Unit {0}
-Proper loops = Unit {0}
-Proper coupled = Unit {0}
-Proper operation = Unit {0}
-Proper (count t) = t < 7
-Proper (term t o) = (t < 7) × (o < 7)
-Proper (base a) = Unit {0}
-Proper (stride a d) = d < 7
-
--- two nests of the same numbers are the same
-pub nests-same : (m n : Nest) → Long m → Long n → ((a : Role) → Based (accessOf a m)) → ((a : Role) → Based (accessOf a n))
-    → ((f : Field) → Proper f → numberIn f m ≡ numberIn f n) → m ≡ n
-nests-same m n l k b c h = λ i. record {
-  width = width-same i;
-  loops = h loops tt i;
-  coupled = h coupled tt i;
-  action = action-same i;
-  counts = counts-same i;
-  terms = terms-same i;
-  first = same first i;
-  second = same second i;
-  destination = same destination i;
-}
-  where
-    width-same : m .width ≡ n .width
-    width-same = sym (width-back (m .width)) ∙ ap widthCoded (h width tt) ∙ width-back (n .width)
-
-    action-same : m .action ≡ n .action
-    action-same = sym (action-back (m .action)) ∙ ap actionCoded (h operation tt) ∙ action-back (n .action)
-
-    counts-same : m .counts ≡ n .counts
-    counts-same = ext-getD 0 (m .counts) (n .counts) (l .counts ∙ sym (k .counts)) (λ t u. h (count t) (omega (arith, l .counts)))
-
-    terms-same : m .terms ≡ n .terms
-    terms-same =
-        ext-getD (pos 0) (m .terms) (n .terms) (l .terms ∙ sym (k .terms))
-        (λ i u.
-        let e : termPlace (i / 7) (i % 7) ≡ i = omega arith in
-        let q : i < 49 = omega (arith, l .terms) in
-        signed-same (getD (m .terms) i (pos 0)) (getD (n .terms) i (pos 0))
-        (rw e at (h (term (i / 7) (i % 7)) (omega arith, omega arith))))
-
-    same : (a : Role) → accessOf a m ≡ accessOf a n
-    same a = access-same (accessOf a m) (accessOf a n) (b a) (c a) (l .strides a) (k .strides a) (h (base a) tt) (λ d. h (stride a d))
-
--- parts of the right lengths, and the lists' lengths
-pub sized-long : (m : Nest) → Sized m → Long m
-sized-long m s = record { counts = s 1; terms = sym (length-map (m .terms) unsignedOf) ∙ s 2; strides = strides }
-  where
-    of : (x : Access) → length (accessNumbers x) ≡ 8 → length (x .strides) ≡ 7
-    of x e = omega (arith, length-map (x .strides) strideNumber)
-
-    strides : (a : Role) → length (accessOf a m .strides) ≡ 7
-    strides first = of (m .first) (s 3)
-    strides second = of (m .second) (s 4)
-    strides destination = of (m .destination) (s 5)

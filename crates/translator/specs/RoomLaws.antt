@@ -1,7 +1,6 @@
 -- The sheet of an accepted nest, and its length.
 --
 --   number-most, number-small     a number has at most five bytes, one below 128 has one
---   modifiers-most, dimensions-most, stream-most   the bytes of modifiers, of dimensions, of a stream
 --   sheet-most                    a sheet has at most 559 bytes
 use Prim.Native.Nat.{ℕ, zero, suc, _+_, _*_, _%_, _/_, _≤_, _<_}
 use mathlib.Core.Path.{_≡_, ap}
@@ -26,12 +25,13 @@ use Rattle.translator.specs.Fields.{termOf}
 use Rattle.translator.specs.NestRules.{nonzeroOf}
 use Rattle.translator.specs.ModifierLaws.{modifiers-count}
 use Rattle.translator.specs.NestSheets.{behaviourOf, modifierOf, modifiersAt, modifiersFrom, modifiersOf, headerFor, dimensionOf, modifierOp, dimensionOps, streamOps, sheetOps, runOp, calculationOf, bytesOfAll, sheetOf}
-use Rattle.translator.specs.NestStands.{action-small}
+use Rattle.translator.specs.NestWritten.{action-small}
 use Rattle.translator.specs.declared.nest.Access.{Access}
 use Rattle.translator.specs.declared.nest.Nest.{Nest}
 
 -- ---- numbers
 
+-- of n + 1 groups at the most
 groups-most : (n v : ℕ) → length (groupsOf n v) ≤ suc n
 unfolding groupsOf
 groups-most zero v = omega arith
@@ -58,6 +58,7 @@ bytes-append [] ys = omega arith
 bytes-append (x ∷ xs) ys =
     omega (arith, length-append (operationBytes 0 x) (bytesOfAll (xs ++ ys)), length-append (operationBytes 0 x) (bytesOfAll xs), bytes-append xs ys)
 
+-- behaviours have small codes
 behaviour-small : (b : Behaviour) → behaviourCode b < 128
 behaviour-small Add = omega arith
 behaviour-small Subtract = omega arith
@@ -108,12 +109,13 @@ module _ (m : Nest) (register : ℕ) (h : register < 128) where
         length-append (modifiersAt m d 0 d) (modifiersFrom m (suc d) n),
       )
 
-  -- open and end
+  -- open has at most eleven bytes, end has
   open-most : (kind : Kind) (a : Access) → length (operationBytes 0 (op.Open (headerFor m register kind) (a .base))) ≤ 11
   unfolding operationBytes
   open-most kind a =
       simp length-append (omega (arith, number-small 1 (omega arith), number-most (wordOf (headerFor m register kind) + 0), number-most (natAbs (a .base .0))))
 
+  -- two bytes
   end-most : length (bytesOfAll (op.End register ∷ [])) ≤ 2
   unfolding bytesOfAll operationBytes
   end-most = simp length-append (omega (arith, number-small 4 (omega arith), number-small register h))
