@@ -9,3 +9,5 @@ pub mod Promise3
 pub mod Examples
 pub mod RefusedNests
 pub mod NestRuns
+pub mod Parts
+pub mod PartLaws

@@ -1,2 +1,4 @@
 // The translator: loop nests, read, checked and written as sheets.
+mod change;
 pub mod nest;
+pub mod read;
