@@ -1,1 +1,2 @@
+mod Signs
 pub mod Visiting

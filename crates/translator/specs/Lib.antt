@@ -10,4 +10,8 @@ pub mod Examples
 pub mod RefusedNests
 pub mod NestRuns
 pub mod Parts
+pub mod Keeping
+pub mod KeepingLaws
+pub mod Pages
+pub mod PageLaws
 pub mod PartLaws

@@ -2,3 +2,5 @@
 mod change;
 pub mod nest;
 pub mod read;
+mod rules;
+mod write;
