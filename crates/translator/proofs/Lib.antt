@@ -1,2 +1,4 @@
 mod Signs
+pub mod Translating
+pub mod Nesting
 pub mod Visiting
