@@ -26,4 +26,5 @@ pub mod Keeping
 pub mod KeepingLaws
 pub mod Pages
 pub mod PageLaws
+pub mod SheetPages
 pub mod PartLaws
