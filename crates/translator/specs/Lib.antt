@@ -28,3 +28,4 @@ pub mod Pages
 pub mod PageLaws
 pub mod SheetPages
 pub mod PartLaws
+pub mod NestAnswers

@@ -99,9 +99,10 @@ stays : (v : Verdict) (m : Nest) (at : ℕ) (k : Nest → ℕ → Read) → isRe
 stays Done m at k e = absurd (let z : _≡_ {A = ℕ} 0 1 = cc in omega arith)
 stays (Refused x place) m at k e = refl
 
-goes : (v : Verdict) (m : Nest) (at : ℕ) (k : Nest → ℕ → Read) → isRefused v ≡ false → onRead refused (readOf v m at) k ≡ k m at
-goes Done m at k e = refl
-goes (Refused x place) m at k e = absurd (let z : _≡_ {A = ℕ} 0 1 = cc in omega arith)
+pub goes : {A : Type 0} (refuse : Refusal → ℕ → A) (v : Verdict) (m : Nest) (at : ℕ) (k : Nest → ℕ → A) → isRefused v ≡ false
+    → onRead refuse (readOf v m at) k ≡ k m at
+goes refuse Done m at k e = refl
+goes refuse (Refused x place) m at k e = absurd (let z : _≡_ {A = ℕ} 0 1 = cc in omega arith)
 
 -- as the code keeps it: what was read of some fields is refused, or leads on to the others
 module _ (s : List ℕ) (fs gs : List Field) (at : ℕ) (m : Nest) (p : Part) (e : partOf p ≡ readFrom s fs at m) where
@@ -109,7 +110,7 @@ module _ (s : List ℕ) (fs gs : List Field) (at : ℕ) (m : Nest) (p : Part) (e
   then-stays h = sym (read-then s fs gs at m ∙ rw (sym e) (stays (p .verdict) (p .nest) (p .cursor .at) (λ n q. readFrom s gs q n) h))
 
   pub then-goes : isRefused (p .verdict) ≡ false → readFrom s (fs ++ gs) at m ≡ readFrom s gs (p .cursor .at) (p .nest)
-  then-goes h = read-then s fs gs at m ∙ rw (sym e) (goes (p .verdict) (p .nest) (p .cursor .at) (λ n q. readFrom s gs q n) h)
+  then-goes h = read-then s fs gs at m ∙ rw (sym e) (goes refused (p .verdict) (p .nest) (p .cursor .at) (λ n q. readFrom s gs q n) h)
 
 -- ---- signed numbers
 

@@ -3,4 +3,6 @@ mod change;
 pub mod nest;
 pub mod read;
 mod rules;
+pub mod run;
+pub mod translate;
 mod write;

@@ -7,6 +7,8 @@ use crate::change::with_stride;
 use crate::change::with_term;
 use crate::nest::Access;
 use crate::nest::Nest;
+use crate::nest::NestRead;
+use crate::rules::why_not;
 use codec::amounts::Elements;
 use codec::header::Width;
 use codec::number::Cursor;
@@ -14,6 +16,7 @@ use codec::number::Number;
 use codec::number::Signed;
 use codec::operation::Action;
 use codec::refusal::Refusal;
+use engine::check::Why;
 use engine::run::Verdict;
 ghost use mathlib.Core.Path.{_≡_};
 ghost use mathlib.Core.List.{_∷_};
@@ -21,7 +24,7 @@ ghost use Prim.Native.Nat.{_+_, _-_, _<_, _≤_};
 ghost use Rattle.codec.specs.Operations.{isReach};
 ghost use Rattle.engine.specs.declared.run.Verdict.the-variants as verdict;
 ghost use Rattle.translator.specs.Fields.{headFields, restFields, termFields, loopFields, noNest, count};
-ghost use Rattle.translator.specs.Reading.{readFrom};
+ghost use Rattle.translator.specs.Reading.{readFrom, nestedOf, nestAt};
 ghost use Rattle.translator.specs.Parts.{isRefused, partOf, sideOf, stridesAt, accessAt};
 
 // Some numbers of a nest that were read, with the place behind them, or why not.
@@ -280,5 +283,43 @@ fn read_rest(s: &[u8], nest: Nest, cursor: Cursor, n: usize) -> Part
         verdict: d_verdict,
         nest: with_accesses(m, f_access, g_access, d_access),
         cursor: d_cursor,
+    }
+}
+
+// The nest that bytes are, or why not and where: 1 and 2 number by number, bytes after it, then 6, 8, 9.
+pub fn read_nest(s: &[u8]) -> NestRead
+    ensures { λ r. ⌜ nestedOf (r .verdict) (r .nest) ≡ nestAt (now (s .entry)) ⌝ }
+{
+    let head = read_head(s);
+    let head_verdict = head.verdict;
+    let begun = head.nest;
+    if is_refused(head_verdict) {
+        return NestRead {
+            verdict: head_verdict,
+            nest: begun,
+        };
+    }
+    let rest = read_rest(s, begun, head.cursor, begun.loops);
+    let verdict = rest.verdict;
+    let nest = rest.nest;
+    let at = rest.cursor.at;
+    if is_refused(verdict) {
+        return NestRead { verdict, nest };
+    }
+    if at < s.len() {
+        return NestRead {
+            verdict: Verdict::Refused(Refusal::OutOfRange, at),
+            nest,
+        };
+    }
+    match why_not(nest) {
+        Why::Nothing => NestRead {
+            verdict: Verdict::Done,
+            nest,
+        },
+        Why::Because(refusal) => NestRead {
+            verdict: Verdict::Refused(refusal, 0),
+            nest,
+        },
     }
 }
