@@ -1,3 +1,5 @@
+mod Signs
+mod Copies
 pub mod Translating
 pub mod Nesting
 pub mod Visiting

@@ -29,3 +29,11 @@ pub mod StartLaws
 pub mod Examples
 pub mod RefusedNests
 pub mod NestRuns
+pub mod Parts
+pub mod Keeping
+pub mod KeepingLaws
+pub mod Pages
+pub mod PageLaws
+pub mod SheetPages
+pub mod PartLaws
+pub mod NestAnswers

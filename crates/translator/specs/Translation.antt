@@ -19,6 +19,7 @@ use Rattle.engine.specs.Bodies.{progressOf}
 use Rattle.engine.specs.declared.run.Verdict.{Verdict}
 use Rattle.engine.specs.declared.run.Verdict.the-variants.{Done, Refused}
 use Rattle.engine.specs.declared.run.Report.{Report}
+use Rattle.engine.specs.declared.run.Answer.{Answer}
 use Rattle.translator.specs.Reading.{Nested, nest, refused, nestAt}
 use Rattle.translator.specs.NestSheets.{sheetOf}
 use Rattle.translator.specs.declared.nest.Translated.{Translated}
@@ -49,6 +50,10 @@ pub record Outcome : Type 0 where
 -- a refusal before any register was used
 abbrev pub unrun : Stage → List ℕ → Refusal → ℕ → Outcome
 unrun g memory x at = record { stage = g; progress = refusedAt (record { machine = freshMachine; memory = memory }) x at }
+
+-- the same, as the code answers it
+abbrev pub refusedAnswer : Refusal → ℕ → Answer
+refusedAnswer x at = record { verdict = Refused x at; report = record { passes = 0; calculations = 0 }; machine = freshMachine }
 
 -- the refusals of the nest, then the run of its sheet
 abbrev pub runNested : ℕ → Nested → List ℕ → Outcome

@@ -1,2 +1,8 @@
 // The translator: loop nests, read, checked and written as sheets.
+mod change;
 pub mod nest;
+pub mod read;
+mod rules;
+pub mod run;
+pub mod translate;
+mod write;

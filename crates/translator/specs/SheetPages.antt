@@ -1,0 +1,207 @@
+-- A page with the sheet of an accepted nest holds the sheet's bytes, and the place behind them is their number.
+--
+--   sets-then                      bytes stored one behind the other
+--   Writable                       operations that can all be written
+--   page-then, page-last           where there is room for them, they stand on the page
+--   sheet-writable                 the operations of a nest in range can all be written
+--   sheet-page                     the page of an accepted nest
+use Prim.Native.Nat.{ℕ, zero, suc, _+_, _≤_, _<_}
+use mathlib.Core.Path.{_≡_, refl, sym, _∙_, ap, subst}
+use mathlib.Core.List.{List, [], _∷_, _++_, map, append-assoc, append-nil}
+use mathlib.Core.Bool.{Bool, true, false, cond, _&&_}
+use native.Mathlib.Omega.{arith}
+use native.Mathlib.Nat.{add-zero}
+use lib.ListN.{length, getD, take, set, length-append}
+use lib.Seq.{sets, sets-eq, length-sets, take-append-seam}
+use lib.Dec.{eqb, leb}
+use lib.IntN.{ℤ, pos, negsuc, natAbs}
+use lib.Signed.{_≤ℤ_, nonNeg}
+use borrow.Author.Tests.{le-leb, ne-eqb}
+use Rattle.codec.specs.Operations.{operationInRange, operationBytes, calculationInRange, calculationBytes, actionCode, isBase}
+use Rattle.codec.specs.Headers.{couplingInRange}
+use Rattle.codec.specs.Writing.{writtenTo, bytesAfter}
+use Rattle.codec.specs.declared.header.Kind.{Kind}
+use Rattle.codec.specs.declared.header.Kind.the-variants.{Load, Store}
+use Rattle.codec.specs.declared.operation.Operation.{Operation}
+use Rattle.codec.specs.declared.operation.Operation.the-variants as op
+use Rattle.codec.specs.declared.operation.Calculation.{Calculation}
+use Rattle.engine.specs.Addresses.{noElements}
+use Rattle.engine.specs.AllowedLaws.{test-plain}
+use Rattle.translator.specs.Fields.{termOf}
+use Rattle.translator.specs.Nests.{couplingOf}
+use Rattle.translator.specs.NestSheets.{modifierOf, modifiersAt, modifierOp, headerFor, dimensionOf, dimensionOps, streamOps, sheetOps, runOp, calculationOf, bytesOfAll, sheetOf}
+use Rattle.translator.specs.Acceptance.{AccessInRange, InRange, Accepted}
+use Rattle.translator.specs.RoomLaws.{sheet-most}
+use Rattle.translator.specs.Pages.{Blank, putOne, putAll, putCalculation, SheetPage}
+use Rattle.translator.specs.declared.nest.Access.{Access}
+use Rattle.translator.specs.declared.nest.Nest.{Nest}
+use Rattle.translator.specs.declared.write.Page.{Page}
+
+-- ---- onto a page
+
+-- bytes stored one behind the other
+pub sets-then : (a b l : List ℕ) (i : ℕ) → sets l i (a ++ b) ≡ sets (sets l i a) (i + length a) b
+sets-then [] b l i = rw (add-zero i)
+sets-then (x ∷ a) b l i =
+    let e : suc i + length a ≡ i + suc (length a) = omega arith in
+    sets-then a b (set l i x) (suc i) ∙ rw e
+
+-- bytes on a page
+abbrev onPage : List ℕ → Page → Page
+onPage bytes p = record { bytes = sets (p .bytes) (p .at) bytes; at = p .at + length bytes }
+
+-- there is room for so many
+abbrev Room : ℕ → Page → Type 0
+Room n p = p .at + n ≤ length (p .bytes)
+
+put-on : (o : Operation) (p : Page) → operationInRange o ≡ true → Room (length (operationBytes 0 o)) p → putOne o p ≡ onPage (operationBytes 0 o) p
+unfolding putOne writtenTo bytesAfter
+put-on o p e h = rw (e, le-leb (p .at + length (operationBytes 0 o)) (length (p .bytes)) h)
+
+last-on : (c : Calculation) (p : Page) → calculationInRange c ≡ true → Room (length (calculationBytes c)) p → putCalculation c p ≡ onPage (calculationBytes c) p
+unfolding putCalculation writtenTo bytesAfter
+last-on c p e h = rw (e, le-leb (p .at + length (calculationBytes c)) (length (p .bytes)) h)
+
+-- operations that can all be written
+unfoldable pub Writable : List Operation → Type 0
+Writable [] = Unit {0}
+Writable (o ∷ os) = (operationInRange o ≡ true) × Writable os
+
+then-on : (a b : List ℕ) (p : Page) → onPage b (onPage a p) ≡ onPage (a ++ b) p
+then-on a b p =
+    let e : p .at + length a + length b ≡ p .at + (length a + length b) = omega arith in
+    rw (sets-then a b (p .bytes) (p .at), length-append a b, e)
+
+page-then : (os : List Operation) (p : Page) → Writable os → Room (length (bytesOfAll os)) p → putAll os p ≡ onPage (bytesOfAll os) p
+unfolding putAll Writable bytesOfAll
+page-then [] p w h = rw (add-zero (p .at))
+page-then (o ∷ os) p w h =
+    let a = operationBytes 0 o in
+    let l : length (a ++ bytesOfAll os) ≡ length a + length (bytesOfAll os) = length-append a (bytesOfAll os) in
+    ap (putAll os) (put-on o p (w .0) (omega arith))
+    ∙ page-then os (onPage a p) (w .1) (rw (length-sets (p .bytes) (p .at) a) (omega arith))
+    ∙ then-on a (bytesOfAll os) p
+
+-- ---- the operations of a nest
+
+writable-then : (os ps : List Operation) → Writable os → Writable ps → Writable (os ++ ps)
+unfolding Writable
+writable-then [] ps v w = w
+writable-then (o ∷ os) ps v w = (v .0, writable-then os ps (v .1) w)
+
+bytes-then : (os ps : List Operation) → bytesOfAll (os ++ ps) ≡ bytesOfAll os ++ bytesOfAll ps
+unfolding bytesOfAll
+bytes-then [] ps = refl
+bytes-then (o ∷ os) ps = ap (λ l. operationBytes 0 o ++ l) (bytes-then os ps) ∙ sym (append-assoc (operationBytes 0 o) (bytesOfAll os) (bytesOfAll ps))
+
+base-in : (z : ℤ) → pos 0 ≤ℤ z → z ≤ℤ pos 1048576 → (nonNeg z && isBase (natAbs z)) ≡ true
+base-in (pos n) h k = test-plain (leb n 1048576) .1 (k .le)
+base-in (negsuc n) h k = absurd (h .le)
+
+coupling-in : (c : ℕ) → c ≤ 7 → couplingInRange (couplingOf c) ≡ true
+coupling-in zero h = refl
+coupling-in (suc c) h = rw (le-leb 1 (suc c) (omega arith), le-leb (suc c) 7 h)
+
+module _ (m : Nest) (r : InRange m) (register : ℕ) (small : register ≤ 31) where
+  term-in : (d t : ℕ) → t < d → d < m .loops → operationInRange (modifierOp register (modifierOf m d t)) ≡ true
+  unfolding operationInRange
+  term-in d t h k =
+      rw
+      (le-leb register 31 small, le-leb t 6 (omega (arith, r .loops-most)), le-leb (natAbs (termOf m t d)) 1048576 (r .terms t d h k))
+
+  terms-in : (d t n : ℕ) → t + n ≤ d → d < m .loops → Writable (map (modifierOp register) (modifiersAt m d t n))
+  unfolding Writable modifiersAt
+  terms-in d t zero h k = tt
+  terms-in d t (suc n) h k = by (eqb (natAbs (termOf m t d)) 0) (terms-in d (suc t) n (omega arith) k)
+    where
+      by : (b : Bool) → Writable (map (modifierOp register) (modifiersAt m d (suc t) n))
+          → Writable (map (modifierOp register) (cond b (modifiersAt m d (suc t) n) (modifierOf m d t ∷ modifiersAt m d (suc t) n)))
+      by true w = w
+      by false w = (term-in d t (omega arith) k, w)
+
+  module _ (a : Access) (q : AccessInRange (m .loops) a) where
+    dimension-in : (d : ℕ) → d < m .loops → operationInRange (op.Dimension (dimensionOf m register a d)) ≡ true
+    unfolding operationInRange
+    dimension-in d h =
+        rw (
+          le-leb register 31 small,
+          le-leb (getD (m .counts) d 0) 4096 (r .counts d h),
+          le-leb (natAbs (getD (a .strides) d noElements .0)) 1048576 (q .strides d h),
+        )
+
+    dimensions-in : (d n : ℕ) → d + n ≤ m .loops → Writable (dimensionOps m register a d n)
+    unfolding Writable dimensionOps
+    dimensions-in d zero h = tt
+    dimensions-in d (suc n) h = (
+      dimension-in d (omega arith),
+      writable-then (map (modifierOp register) (modifiersAt m d 0 d)) (dimensionOps m register a (suc d) n) (terms-in d 0 d (omega arith) (omega arith))
+          (dimensions-in (suc d) n (omega arith)),
+    )
+
+    stream-in : (kind : Kind) → Writable (streamOps m register kind a)
+    unfolding Writable operationInRange
+    stream-in kind = (
+      rw
+          (le-leb register 31 small, coupling-in (m .coupled) (omega (arith, r .coupled, r .loops-most)), base-in (a .base .0) (q .base-least) (q .base-most)),
+      writable-then (dimensionOps m register a 0 (m .loops)) (op.End register ∷ []) (dimensions-in 0 (m .loops) (omega arith)) (le-leb register 31 small, tt),
+    )
+
+pub sheet-writable : (m : Nest) → InRange m → Writable (sheetOps m ++ (runOp ∷ []))
+unfolding Writable operationInRange
+sheet-writable m r =
+    writable-then (sheetOps m) (runOp ∷ [])
+    (writable-then (streamOps m 1 Load (m .first)) (streamOps m 2 Load (m .second) ++ streamOps m 3 Store (m .destination))
+    (stream-in m r 1 (omega arith) (m .first) (r .first) Load)
+    (writable-then (streamOps m 2 Load (m .second)) (streamOps m 3 Store (m .destination)) (stream-in m r 2 (omega arith) (m .second) (r .second) Load)
+    (stream-in m r 3 (omega arith) (m .destination) (r .destination) Store)))
+    (refl, tt)
+
+-- ---- the page
+
+-- the bytes stand at the front of a page, and the place behind them is their number
+pub record Holds (p : Page) (bytes : List ℕ) : Type 0 where
+  pub behind : p .at ≡ length bytes
+  pub front : take (length bytes) (p .bytes) ≡ bytes
+  pub fits : length bytes ≤ 1024
+
+-- bytes on a blank page
+blank-on : (b : Page) (bytes : List ℕ) → Blank b → length bytes ≤ 1024 → Holds (onPage bytes b) bytes
+blank-on b bytes e h = record {
+  behind = rw (e .start) (omega arith);
+  front = rw (e .start, sets-eq bytes (b .bytes) 0 (omega (arith, e .long))) (take-append-seam bytes _);
+  fits = h;
+}
+
+calculation-in : (m : Nest) → InRange m → calculationInRange (calculationOf m) ≡ true
+calculation-in m r = rw (ne-eqb (actionCode (m .action)) 0 (λ e. omega (arith, r .operation)))
+
+-- the page of an accepted nest
+module _ (m : Nest) (p : Page) (a : Accepted m) (s : SheetPage m p) where
+  abbrev body : List ℕ
+  body = bytesOfAll (sheetOps m ++ (runOp ∷ []))
+
+  abbrev last : List ℕ
+  last = calculationBytes (calculationOf m)
+
+  sheet-is : body ++ last ≡ sheetOf m
+  unfolding sheetOf bytesOfAll
+  sheet-is =
+      rw (bytes-then (sheetOps m) (runOp ∷ []), append-nil (operationBytes 0 runOp))
+      (append-assoc (bytesOfAll (sheetOps m)) (operationBytes 0 runOp) last)
+
+  short : length body + length last ≤ 1024
+  short = omega (arith, sheet-most m (a .range .loops-most) (a .few), ap length sheet-is, length-append body last)
+
+  sheet-on : p ≡ onPage (sheetOf m) (s .blank)
+  sheet-on =
+      let b = s .blank in
+      let e = s .empty in
+      s .written
+      ∙ ap (putCalculation (calculationOf m)) (page-then (sheetOps m ++ (runOp ∷ [])) b (sheet-writable m (a .range)) (omega (arith, e .start, e .long, short)))
+      ∙ last-on (calculationOf m) (onPage body b) (calculation-in m (a .range))
+      (rw (length-sets (b .bytes) (b .at) body) (omega (arith, e .start, e .long, short)))
+      ∙ then-on body last b
+      ∙ ap (λ l. onPage l b) sheet-is
+
+  pub sheet-page : Holds p (sheetOf m)
+  sheet-page = rw sheet-on (blank-on (s .blank) (sheetOf m) (s .empty) (omega (arith, sheet-most m (a .range .loops-most) (a .few))))
