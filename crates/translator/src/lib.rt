@@ -1,7 +1,7 @@
 // The translator: loop nests, read, checked and written as sheets.
 mod change;
 pub mod nest;
-pub mod read;
+mod read;
 mod rules;
 pub mod run;
 pub mod translate;

@@ -287,7 +287,7 @@ fn read_rest(s: &[u8], nest: Nest, cursor: Cursor, n: usize) -> Part
 }
 
 // The nest that bytes are, or why not and where: 1 and 2 number by number, bytes after it, then 6, 8, 9.
-pub fn read_nest(s: &[u8]) -> NestRead
+pub(crate) fn read_nest(s: &[u8]) -> NestRead
     ensures { λ r. ⌜ nestedOf (r .verdict) (r .nest) ≡ nestAt (now (s .entry)) ⌝ }
 {
     let head = read_head(s);
