@@ -4,4 +4,5 @@ pub mod Translating
 pub mod Nesting
 pub mod Visiting
 pub mod Promise3
+pub mod Delivered
 pub mod Promised
