@@ -7,7 +7,7 @@ use mathlib.Core.List.{List}
 use lib.ListN.{length}
 use Rattle.engine.specs.Sheets.{run}
 use Rattle.translator.specs.NestSheets.{sheetOf}
-use Rattle.translator.specs.Translation.{Outcome, runNest, outcomeOf}
+use Rattle.translator.specs.Translation.{runNest, outcomeOf}
 use Rattle.translator.specs.Promise3.{Promise3, Premise1, Delivered}
 use Rattle.translator.specs.declared.nest.Nest.{Nest}
 use Rattle.translator.specs.declared.nest.NestAnswer.{NestAnswer}
