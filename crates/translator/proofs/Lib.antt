@@ -4,4 +4,6 @@ pub mod Translating
 pub mod Nesting
 pub mod Visiting
 pub mod Promise3
+pub mod Delivered
+pub mod PlainRuns
 pub mod Promised

@@ -17,6 +17,7 @@ pub mod RuleLaws
 pub mod KeptRules
 pub mod NestingLaws
 pub mod RoomLaws
+pub mod LengthLaws
 pub mod Promise3
 pub mod DescriptorLaws
 pub mod PlainLaws
@@ -28,6 +29,12 @@ pub mod NestStreams
 pub mod StartLaws
 pub mod Examples
 pub mod RefusedNests
+pub mod LongNests
+pub mod PremiseTests
+pub mod PremiseLaws
+pub mod RectangleLaws
+pub mod Premises
+pub mod Limits
 pub mod NestRuns
 pub mod Parts
 pub mod Keeping

@@ -8,6 +8,7 @@
 --   Visits                       what the visits are
 --   Translating                  the room
 --   Promise3, Promised           demand 3; with the acceptance, the visits and the room
+--   Premise1, Delivered          demand 3 in the words of an answer, for the bytes of a nest
 use Prim.Native.Nat.{ℕ, suc, _+_, _/_, _≤_, _<_}
 use mathlib.Core.Path.{_≡_}
 use mathlib.Core.Logic.{_⊎_, _↔_}
@@ -28,6 +29,7 @@ use Rattle.translator.specs.Translation.{translated, roomAfter, runNest,
 use Rattle.translator.specs.Acceptance.{Accepted, Nesting}
 use Rattle.translator.specs.declared.nest.Nest.{Nest}
 use Rattle.translator.specs.declared.nest.Stage.the-variants as stage
+use Rattle.translator.specs.declared.nest.NestAnswer.{NestAnswer}
 
 -- ---- premise 1: every element of every visit lies inside memory
 
@@ -104,6 +106,24 @@ pub record Promise3 (m : Nest) (vl : ℕ) (memory : List ℕ) : Type 0 where
   -- under the weaker premise too
   pub chunkwise : AllInside m (length memory) → NoneReadInChunk m (vl / widthOf m)
       → run vl (sheetOf m) memory .world .memory ≡ plainLoop m memory
+
+-- ---- of an answer
+
+-- premise 1, of bytes: an accepted nest, allowed lengths, every element of every visit inside
+pub record Premise1 (s : List ℕ) (vl len : ℕ) (m : Nest) : Type 0 where
+  pub accepted : Accepted m
+  pub bytes : s ≡ nestBytes m
+  pub lengths : Fits vl len
+  pub inside : AllInside m len
+
+-- demand 3 of the answer r for the bytes s, and of the memory after it
+pub record Delivered (s : List ℕ) (vl : ℕ) (memory : List ℕ) (r : NestAnswer) (after : List ℕ) : Type 0 where
+  -- premise 1 alone: the sheet was run, and not refused
+  pub done : (m : Nest) → Premise1 s vl (length memory) m → (r .stage ≡ stage.Sheet) × (r .answer .verdict ≡ Done)
+  -- both: the plain loop's memory
+  pub plain : (m : Nest) → Premise1 s vl (length memory) m → NoneRead m (visits m) → after ≡ plainLoop m memory
+  -- under the weaker premise too
+  pub chunkwise : (m : Nest) → Premise1 s vl (length memory) m → NoneReadInChunk m (vl / widthOf m) → after ≡ plainLoop m memory
 
 -- ---- all of it
 

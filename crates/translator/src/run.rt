@@ -17,6 +17,7 @@ ghost use Rattle.engine.specs.Sheets.{allowed};
 ghost use Rattle.engine.specs.Sheets;
 ghost use Rattle.translator.specs.Acceptance.{Accepted};
 ghost use Rattle.translator.specs.NestSheets.{sheetOf};
+ghost use Rattle.translator.specs.Promise3.{Delivered};
 ghost use Rattle.translator.specs.Translation.{runNest, outcomeOf, refusedAnswer};
 
 // "vector length | 8 to 64 bytes, a multiple of 8", "memory | 0 to 65,536 bytes"
@@ -62,9 +63,11 @@ fn run_sheet(m: Nest, vl: u64, memory: &mut [u8]) -> Answer
 }
 
 // The answer of the nest that bytes are, translated and run at a vector length, on a lent memory: 15 first, then the nest's refusals,
-// then the run of its sheet.
+// then the run of its sheet. Demand 3: done if every visit lies inside memory; the plain loop's memory if also no visit reads what an
+// earlier one wrote.
 pub fn run_nest(s: &[u8], vl: u64, memory: &mut [u8]) -> NestAnswer
     ensures { λ r. ⌜ outcomeOf r (now (memory .exit)) ≡ runNest vl (now (s .entry)) (now (memory .entry)) ⌝ }
+    ensures { λ r. ⌜ Delivered (now (s .entry)) vl (now (memory .entry)) r (now (memory .exit)) ⌝ }
 {
     if !is_allowed(vl, memory.len()) {
         return NestAnswer {
