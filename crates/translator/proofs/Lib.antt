@@ -5,4 +5,5 @@ pub mod Nesting
 pub mod Visiting
 pub mod Promise3
 pub mod Delivered
+pub mod PlainRuns
 pub mod Promised

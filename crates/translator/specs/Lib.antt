@@ -30,6 +30,11 @@ pub mod StartLaws
 pub mod Examples
 pub mod RefusedNests
 pub mod LongNests
+pub mod PremiseTests
+pub mod PremiseLaws
+pub mod RectangleLaws
+pub mod Premises
+pub mod Limits
 pub mod NestRuns
 pub mod Parts
 pub mod Keeping
