@@ -2,8 +2,8 @@
 --
 --   every-each, pairs-ordered, bytes-tested   tests over a list
 --   premises-tested, ready        a nest that passes the tests
---   past, parted                  a nest whose sources lie below its destination
 --   pos-le, lies-at               an element inside, by its numbers
+--   parted                        a nest whose sources lie below its destination
 use Prim.Native.Nat.{ℕ, zero, suc, _+_, _≤_}
 use mathlib.Core.Path.{_≡_, refl}
 use mathlib.Core.Logic.{inl, inr, ⊎-elim}
@@ -131,12 +131,12 @@ least-zero : (low : ℕ) (a : ℤ) → pos low ≤ℤ a → pos 0 ≤ℤ a
 least-zero low (pos n) h = pos-le (omega arith)
 least-zero low (negsuc n) h = absurd (h .le)
 
--- inside a larger memory
+-- at most a larger bound
 most-more : (low len : ℕ) (a : ℤ) → low ≤ len → a ≤ℤ pos low → a ≤ℤ pos len
 most-more low len (pos n) l h = pos-le (omega (arith, leb→le n low (h .le)))
 most-more low len (negsuc n) l h = leZ-yes tt
 
--- an element
+-- inside a larger memory
 lies-more : (low len width : ℕ) (a : ℤ) → low ≤ len → Lies low width a → Lies len width a
 lies-more low len width a l h = record { least = h .least; most = most-more low len (a +ℤ pos width) l (h .most) }
 
