@@ -1,6 +1,7 @@
 -- Laws of a stream in outline, and 01's examples.
 --
---   extent-none, extent-some         of no element; of elements: the first is the one at position 0, the last the one before their number
+--   extent                           an extent by its five values
+--   extent-none, extent-some         of no element; of n + 1 elements: the first is at position 0, the last at position n
 --   outline-stream, outline-unended  of a stream that was ended, and of none
 --   outline-moved                    what has moved makes no difference
 --   examples                         01's bench rows in outline
@@ -32,7 +33,7 @@ use Rattle.engine.specs.declared.register.Register.{Register}
 use Rattle.engine.specs.declared.outline.Extent.{Extent}
 use Rattle.engine.specs.declared.outline.Outline.the-variants.{Unended, Stream}
 
--- an extent by its five values
+-- dimensions, modifiers, elements, first and last address
 abbrev pub extent : ℕ → ℕ → ℕ → Bytes → Bytes → Extent
 extent dims mods n first last = record { dims = dims; mods = mods; elements = n; first = first; last = last }
 
