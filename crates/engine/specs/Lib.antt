@@ -71,3 +71,5 @@ pub mod FieldLaws
 pub mod ReadingLaws
 pub mod StandLaws
 pub mod Table
+pub mod Outlines
+pub mod OutlineLaws

@@ -9,6 +9,7 @@ mod height;
 mod lane;
 mod memory;
 mod operand;
+pub mod outline;
 mod place;
 mod plan;
 pub mod question;

@@ -1,0 +1,93 @@
+-- Laws of a stream in outline, and 01's examples.
+--
+--   extent                           an extent by its five values
+--   extent-none, extent-some         of no element; of n + 1 elements: the first is at position 0, the last at position n
+--   outline-stream, outline-unended  of a stream that was ended, and of none
+--   outline-moved                    what has moved makes no difference
+--   examples                         01's bench rows in outline
+use Prim.Native.Nat.{ℕ, suc, _-_, _≤_, _<_}
+use mathlib.Core.Path.{_≡_, refl, sym, _∙_, ap}
+use mathlib.Core.List.{[]}
+use mathlib.Core.Bool.{false, _||_}
+use native.Mathlib.Omega.{arith}
+use lib.ListN.{length, getD, length-map, List·getD-eq-default}
+use lib.IntN.{pos}
+use Rattle.codec.specs.Numbers.{groupsAt, numberAt, signedOf}
+use Rattle.codec.specs.Headers.{headerSaid, headerOf}
+use Rattle.codec.specs.Operations.{openAt, dimensionAt, modifierAt, endAt, operationAt}
+use Rattle.codec.specs.declared.amounts.Bytes.{Bytes}
+use Rattle.engine.specs.Loops.{sizeAt, added, span, loops, elements}
+use Rattle.engine.specs.Rules.{only, highs, lowOrHighFrom, product}
+use Rattle.engine.specs.Addresses.{noBytes, addressUpTo, address}
+use Rattle.engine.specs.Places.{addressesOf}
+use Rattle.engine.specs.Checks.{firstOf}
+use Rattle.engine.specs.Registers.{isOpen, isFinished, movedBy}
+use Rattle.engine.specs.Configure.{whyNot, configured}
+use Rattle.engine.specs.Sheets.{operationsFrom}
+use Rattle.engine.specs.WalkLaws.{getD-map}
+use Rattle.engine.specs.ComeLaws.{IsStream, stream-moved}
+use Rattle.engine.specs.Table.{register, prepared, grown, triangle, words, three}
+use Rattle.engine.specs.Outlines.{addressAt, extentOf, outlineOf}
+use Rattle.engine.specs.declared.stream.Pattern.{Pattern}
+use Rattle.engine.specs.declared.register.Register.{Register}
+use Rattle.engine.specs.declared.outline.Extent.{Extent}
+use Rattle.engine.specs.declared.outline.Outline.the-variants.{Unended, Stream}
+
+-- dimensions, modifiers, elements, first and last address
+abbrev pub extent : ℕ → ℕ → ℕ → Bytes → Bytes → Extent
+extent dims mods n first last = record { dims = dims; mods = mods; elements = n; first = first; last = last }
+
+module _ (p : Pattern) (width : ℕ) where
+  address-none : (k : ℕ) → length (elements (p .shape)) ≤ k → addressAt p width k ≡ noBytes
+  address-none k h =
+      List·getD-eq-default (addressesOf p width (elements (p .shape))) noBytes
+      (omega (arith, length-map {B = Bytes} (elements (p .shape)) (λ v. record { 0 = address p width v })))
+
+  address-some : (k : ℕ) → k < length (elements (p .shape)) → addressAt p width k ≡ record { 0 = address p width (getD (elements (p .shape)) k []) }
+  address-some k h = getD-map (λ v. record { 0 = address p width v }) (elements (p .shape)) k [] noBytes h
+
+  -- of no element
+  pub extent-none : length (elements (p .shape)) ≡ 0 → extentOf p width ≡ extent (p .shape .dims) (p .shape .mods) 0 noBytes noBytes
+  unfolding extentOf
+  extent-none e =
+      λ i. extent (p .shape .dims) (p .shape .mods) (e i) (address-none 0 (omega arith) i) (address-none (length (elements (p .shape)) - 1) (omega arith) i)
+
+  -- of n + 1 elements: the first is at position 0, the last at position n
+  pub extent-some : (n : ℕ) → length (elements (p .shape)) ≡ suc n
+      → extentOf p width
+      ≡ extent (p .shape .dims) (p .shape .mods) (suc n) (record { 0 = address p width (getD (elements (p .shape)) 0 []) })
+      (record { 0 = address p width (getD (elements (p .shape)) n []) })
+  unfolding extentOf
+  extent-some n e =
+      let l : length (elements (p .shape)) - 1 ≡ n = omega arith in
+      λ i. extent (p .shape .dims) (p .shape .mods) (e i) (address-some 0 (omega arith) i) ((ap (addressAt p width) l ∙ address-some n (omega arith)) i)
+
+-- of a stream that was ended
+pub outline-stream : (r : Register) → IsStream r → outlineOf r ≡ Stream (extentOf (r .pattern) (r .width))
+unfolding outlineOf
+outline-stream r e = rw e
+
+-- of none
+pub outline-unended : (r : Register) → (isOpen (r .state) || isFinished (r .state)) ≡ false → outlineOf r ≡ Unended
+unfolding outlineOf
+outline-unended r e = rw e
+
+-- a stream's outline stays, however many of its elements have moved
+pub outline-moved : (n : ℕ) (r : Register) → IsStream r → outlineOf (movedBy n r) ≡ outlineOf r
+unfolding movedBy
+outline-moved n r e = outline-stream (movedBy n r) (stream-moved n r) ∙ sym (outline-stream r e)
+
+-- bytes, size 1 growing by 1 over four rows: 0 to 27; words, base 4, size 5, stride 2: 4 to 36. Behind the first, register 2 is being
+-- configured, and register 3 has a stream without elements
+pub examples :
+    (outlineOf (register 1 (prepared triangle)) ≡ Stream (extent 2 1 10 (record { 0 = pos 0 }) (record { 0 = pos 27 })))
+    × (outlineOf (register 1 (prepared words)) ≡ Stream (extent 1 0 5 (record { 0 = pos 4 }) (record { 0 = pos 36 })))
+    × (outlineOf (register 0 (prepared three)) ≡ Unended)
+    × (outlineOf (register 2 (prepared three)) ≡ Unended)
+    × (outlineOf (register 3 (prepared three)) ≡ Stream (extent 1 0 0 noBytes noBytes))
+    × (outlineOf (register 32 (prepared three)) ≡ Unended)
+unfolding extentOf outlineOf register prepared grown triangle words three
+    groupsAt numberAt signedOf headerSaid headerOf openAt dimensionAt modifierAt endAt operationAt
+    sizeAt added span loops elements only highs lowOrHighFrom product
+    addressUpTo firstOf movedBy whyNot configured operationsFrom
+examples = (refl, refl, refl, refl, refl, refl)

@@ -1,0 +1,85 @@
+// The streams of a sheet in outline: what their descriptors come to, for a listing.
+use crate::address::address;
+use crate::question::has_stream;
+use crate::run::set_up;
+use crate::stream::Pattern;
+use crate::walk::first;
+use crate::walk::next;
+use codec::amounts::Bytes;
+ghost use mathlib.Core.Path.{_≡_};
+ghost use Prim.Native.Nat.{_≤_};
+ghost use Rattle.engine.specs.Registers.{freshMachine, reg};
+ghost use Rattle.engine.specs.Sheets.{operationsFrom};
+ghost use Rattle.engine.specs.Bodies.{settledOf};
+ghost use Rattle.engine.specs.Good.{RangedPattern, Accepted};
+ghost use Rattle.engine.specs.Outlines.{extentOf, outlineOf};
+
+// What the descriptors of a stream come to: its dimensions and modifiers, how many elements its loops have, and the addresses of
+// the first and the last of them (0 if there is none).
+pub struct Extent {
+    pub dims: usize,
+    pub mods: usize,
+    pub elements: u64,
+    pub first: Bytes,
+    pub last: Bytes,
+}
+
+// No stream that was ended, or what it comes to.
+pub enum Outline {
+    Unended,
+    Stream(Extent),
+}
+
+// The loops walked from the first element to the last.
+fn extent_of(p: Pattern, width: u64) -> Extent
+    requires { ⌜ RangedPattern p × (width ≤ 8) × Accepted (p .shape) ⌝ }
+    ensures { λ r. ⌜ r ≡ extentOf p width ⌝ }
+{
+    let shape = p.shape;
+    let start = first(shape);
+    let from = start.index;
+    if !start.found {
+        return Extent {
+            dims: shape.dims,
+            mods: shape.mods,
+            elements: 0,
+            first: Bytes(0),
+            last: Bytes(0),
+        };
+    }
+    let mut index = from;
+    let mut position: u64 = 0;
+    loop {
+        let t = next(shape, index);
+        if !t.found {
+            return Extent {
+                dims: shape.dims,
+                mods: shape.mods,
+                elements: position + 1,
+                first: address(p, width, from),
+                last: address(p, width, index),
+            };
+        }
+        let to = t.index;
+        index = to;
+        position += 1;
+    }
+}
+
+// The stream of a register after at most so many operations of a sheet, from fresh registers. A run is not executed.
+pub fn outline_of(sheet: &[u8], most: usize, register: usize) -> Outline
+    ensures { λ r. ⌜ r ≡ outlineOf (reg (settledOf (operationsFrom most (now (sheet .entry)) 0 freshMachine) .machine) register) ⌝ }
+{
+    if 31 < register {
+        return Outline::Unended;
+    }
+    let settled = set_up(sheet, most);
+    let machine = settled.machine;
+    let r = machine.registers[register];
+    let state = r.state;
+    if !has_stream(state) {
+        return Outline::Unended;
+    }
+    let p = r.pattern;
+    Outline::Stream(extent_of(p, r.width))
+}
