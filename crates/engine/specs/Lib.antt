@@ -70,4 +70,5 @@ pub mod CalculatesLaws
 pub mod FieldLaws
 pub mod ReadingLaws
 pub mod StandLaws
+pub mod GivingLaws
 pub mod Table
