@@ -1,8 +1,8 @@
 -- Laws of header words: a header that was written is read back, and a word that was read is the one written, free bits aside.
 --
---   both                          what an `&&` says
 --   isFree, free-none, free-bits  a value of the free bits: 0, and those of any word
 --   coupled-range, header-range   what it says that a field is in range
+--   width-back, width-there       widths and their codes
 --   header-written, word-below    written then read
 --   header-read                   read then written
 use Prim.Native.Nat.{ℕ, zero, suc, _+_, _-_, _*_, _/_, _≤_, _<_}
@@ -20,12 +20,8 @@ use Rattle.codec.specs.declared.header.Coupling.the-variants.{Uncoupled,
 use Rattle.codec.specs.declared.header.Header.{Header}
 use Rattle.codec.specs.declared.header.Word.the-variants.{Said, Refused}
 use Rattle.codec.specs.declared.refusal.Refusal.the-variants.{FixedBits, NotCarried}
+use Rattle.codec.specs.TestLaws.{both, either}
 use Rattle.codec.specs.Headers.{bitsOf, fixedBits, carriedBits, widthCoded, headerSaid, headerOf, couplingInRange, headerInRange, kindCode, widthCode, couplingCode, wordOf, freeBits}
-
--- both hold
-pub both : (a b : Bool) → (a && b) ≡ true → (a ≡ true) × (b ≡ true)
-both true b e = (refl, e)
-both false b e = absurd (let z : _≡_ {A = ℕ} 0 1 = cc in omega arith)
 
 -- a coupled dimension in range
 pub coupled-range : (d : ℕ) → (leb 1 d && leb d 7) ≡ true → (1 ≤ d) × (d ≤ 7)
@@ -127,7 +123,8 @@ kind-back : (k : Kind) → cond (eqb (kindCode k) 0) Store Load ≡ k
 kind-back Load = refl
 kind-back Store = refl
 
-width-back : (w : Width) → widthCoded (widthCode w) ≡ w
+-- a width and its code
+pub width-back : (w : Width) → widthCoded (widthCode w) ≡ w
 width-back B = refl
 width-back H = refl
 width-back W = refl
@@ -216,7 +213,8 @@ said w h e = go (fixedBits w) (carriedBits w) refl refl e
     go true false p q z = absurd (let z : _≡_ {A = ℕ} 0 1 = cc in omega arith)
     go false c p q z = absurd (let z : _≡_ {A = ℕ} 0 1 = cc in omega arith)
 
-width-there : (n : ℕ) → n < 4 → widthCode (widthCoded n) ≡ n
+-- a code and its width
+pub width-there : (n : ℕ) → n < 4 → widthCode (widthCoded n) ≡ n
 width-there zero h = refl
 width-there (suc zero) h = refl
 width-there (suc (suc zero)) h = refl
@@ -225,10 +223,6 @@ width-there (suc (suc (suc n))) h = omega arith
 kind-there : (n : ℕ) → n < 2 → kindCode (cond (eqb n 0) Store Load) ≡ n
 kind-there zero h = refl
 kind-there (suc n) h = rw (ne-eqb (suc n) 0 (λ q. omega arith)) (omega arith)
-
-either : (a b : Bool) → (a || b) ≡ true → a ≡ false → b ≡ true
-either true b e f = absurd (let z : _≡_ {A = ℕ} 0 1 = cc in omega arith)
-either false b e f = e
 
 coupling-there : (d e : ℕ) → d < 8 → e < 2 → not (eqb d 7) ≡ true → (eqb e 1 || eqb d 0) ≡ true
     → (couplingCode (cond (eqb e 1) (Coupled (d + 1)) Uncoupled) ≡ d * 134217728 + e * 1073741824)

@@ -1,9 +1,13 @@
+pub mod TestLaws
 pub mod Refusals
 pub mod Numbers
 pub mod NumberLaws
+pub mod StandingLaws
 pub mod Headers
 pub mod HeaderLaws
 pub mod Operations
+pub mod RangeLaws
 pub mod Bench
 pub mod OperationLaws
+pub mod BytewiseLaws
 pub mod Writing

@@ -1,6 +1,8 @@
 -- Laws of operations and calculations: what was written is read back, and what was read is what is written.
 --
 --   Decoding, Bodying                          what stands where an operation or a calculation was read
+--   parameter-range, behaviour-range, action-range   the codes of parameters, behaviours and actions
+--   action-back, action-there                  actions and their codes
 --   operation-written, calculation-written     written then read
 --   operation-read, calculation-read           read then written
 use Prim.Native.Nat.{ℕ, zero, suc, _+_, _<_}
@@ -11,7 +13,7 @@ use native.Mathlib.Omega.{arith}
 use lib.ListN.{length, length-append}
 use lib.Dec.{leb, eqb}
 use lib.IntN.{ℤ, pos, negsuc, natAbs}
-use lib.Signed.{mag, nonNeg}
+use lib.Signed.{nonNeg}
 use borrow.Author.Tests.{leb-true}
 use Rattle.codec.specs.declared.amounts.Bytes.{Bytes}
 use Rattle.codec.specs.declared.number.Cursor.{Cursor}
@@ -40,7 +42,9 @@ use Rattle.codec.specs.declared.refusal.Refusal.the-variants.{BadNumber,
 use Rattle.codec.specs.Numbers.{numberAt, signedAt, numberBytes}
 use Rattle.codec.specs.NumberLaws.{areBytes, Stands, stands-join, number-below, number-written, number-read, number-some, signed-written, signed-read}
 use Rattle.codec.specs.Headers.{headerOf, headerInRange, wordOf, freeBits}
-use Rattle.codec.specs.HeaderLaws.{both, isFree, free-none, free-bits, word-below, header-written, header-read}
+use Rattle.codec.specs.TestLaws.{both, and-both}
+use Rattle.codec.specs.RangeLaws.{reach-small}
+use Rattle.codec.specs.HeaderLaws.{isFree, free-none, free-bits, word-below, header-written, header-read}
 use Rattle.codec.specs.Operations.{field, signedField, anyNumber, upTo, isRegister, isBase, isSize, isReach, isDisplacement, isCount, parameterCoded, behaviourCoded, actionCoded, opened, openAt, dimensionAt, modifierAt, endAt, runAt, kindAt, operationAt, isSecond, calculationAt, parameterCode, behaviourCode, actionCode, baseInRange, operationInRange, signedBytes, operationBytes, calculationInRange, calculationBytes}
 
 -- ---- written, then read
@@ -50,14 +54,10 @@ read : (s pre post : List ℕ) (v : ℕ) → v < 4294967296 → s ≡ pre ++ (nu
     → numberAt s (length pre) ≡ Value v (record { at = length (pre ++ numberBytes v) })
 read s pre post v h e = rw (length-append pre (numberBytes v)) (number-written s pre post v h e)
 
-reach-mag : (z : ℤ) → isReach z ≡ true → mag z < 2147483648
-reach-mag (pos n) e = omega (arith, leb-true n 1048576 e)
-reach-mag (negsuc n) e = omega (arith, leb-true (suc n) 1048576 e)
-
 -- the same for an offset or a stride
 read-signed : (s pre post : List ℕ) (z : ℤ) → isReach z ≡ true → s ≡ pre ++ (signedBytes z ++ post)
     → signedAt s (length pre) ≡ Whole z (record { at = length (pre ++ signedBytes z) })
-read-signed s pre post z h e = rw (length-append pre (signedBytes z)) (signed-written s pre post z (reach-mag z h) e)
+read-signed s pre post z h e = rw (length-append pre (signedBytes z)) (signed-written s pre post z (reach-small z h .0) e)
 
 -- what is at most so much is below 2^32
 most : (v k : ℕ) → leb v k ≡ true → k < 4294967296 → v < 4294967296
@@ -67,7 +67,8 @@ abs-back : (z : ℤ) → nonNeg z ≡ true → pos (natAbs z) ≡ z
 abs-back (pos n) e = refl
 abs-back (negsuc n) e = absurd (let z : _≡_ {A = ℕ} 0 1 = cc in omega arith)
 
-parameter-range : (p : Parameter) → leb (parameterCode p) 2 ≡ true
+-- the codes of parameters are 0 to 2
+pub parameter-range : (p : Parameter) → leb (parameterCode p) 2 ≡ true
 parameter-range parameter.Size = refl
 parameter-range parameter.Offset = refl
 parameter-range parameter.Stride = refl
@@ -77,7 +78,8 @@ parameter-back parameter.Size = refl
 parameter-back parameter.Offset = refl
 parameter-back parameter.Stride = refl
 
-behaviour-range : (b : Behaviour) → leb (behaviourCode b) 1 ≡ true
+-- those of behaviours 0 and 1
+pub behaviour-range : (b : Behaviour) → leb (behaviourCode b) 1 ≡ true
 behaviour-range behaviour.Add = refl
 behaviour-range behaviour.Subtract = refl
 
@@ -85,7 +87,8 @@ behaviour-back : (b : Behaviour) → behaviourCoded (behaviourCode b) ≡ b
 behaviour-back behaviour.Add = refl
 behaviour-back behaviour.Subtract = refl
 
-action-range : (a : Action) → leb (actionCode a) 7 ≡ true
+-- those of actions 0 to 7
+pub action-range : (a : Action) → leb (actionCode a) 7 ≡ true
 action-range action.Copy = refl
 action-range action.Add = refl
 action-range action.Subtract = refl
@@ -95,7 +98,8 @@ action-range action.Xor = refl
 action-range action.Smaller = refl
 action-range action.Larger = refl
 
-action-back : (a : Action) → actionCoded (actionCode a) ≡ a
+-- an action and its code
+pub action-back : (a : Action) → actionCoded (actionCode a) ≡ a
 action-back action.Copy = refl
 action-back action.Add = refl
 action-back action.Subtract = refl
@@ -318,9 +322,6 @@ pub record Decoding (s : List ℕ) (at : ℕ) (o : Operation) (to : ℕ) : Type 
 not-refused : (place : ℕ) (o : Operation) (c : Cursor) (x : Refusal) → decoded.Refused x place ≡ decoded.Operation o c → ⊥
 not-refused place o c x e = let z : _≡_ {A = ℕ} 0 1 = cc in omega arith
 
-and-both : (a b : Bool) → a ≡ true → b ≡ true → (a && b) ≡ true
-and-both a b p q = rw (p, q)
-
 operation-some : (free : ℕ) (o : Operation) → 0 < length (operationBytes free o)
 unfolding operationBytes
 operation-some free (op.Open h b) = simp length-append (omega (arith, number-some 1))
@@ -350,7 +351,8 @@ behaviour-there : (n : ℕ) → leb n 1 ≡ true → behaviourCode (behaviourCod
 behaviour-there zero e = refl
 behaviour-there (suc n) e = omega (arith, leb-true (suc n) 1 e)
 
-action-there : (n : ℕ) → leb n 7 ≡ true → actionCode (actionCoded n) ≡ n
+-- a code and its action
+pub action-there : (n : ℕ) → leb n 7 ≡ true → actionCode (actionCoded n) ≡ n
 action-there zero e = refl
 action-there (suc zero) e = refl
 action-there (suc (suc zero)) e = refl

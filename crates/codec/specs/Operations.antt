@@ -4,23 +4,20 @@
 --   openAt .. runAt             the numbers of each kind of operation
 --   operationAt, calculationAt  what stands at a place of a sheet
 --   operationInRange, calculationInRange  what can be written
---   operationBytes, calculationBytes      as bytes
-use Prim.Native.Nat.{ℕ, zero, suc, _+_, _*_}
+--   operationBytes, bytesOfAll, calculationBytes   as bytes
+use Prim.Native.Nat.{ℕ, zero, suc, _+_}
 use mathlib.Core.List.{List, [], _∷_, _++_}
-use mathlib.Core.Bool.{Bool, true, false, cond, not, _&&_, _||_}
-use lib.Dec.{ltb, leb, eqb}
+use mathlib.Core.Bool.{Bool, true, cond, not, _&&_, _||_}
+use lib.Dec.{leb, eqb}
 use lib.IntN.{ℤ, pos, natAbs}
 use lib.Signed.{nonNeg}
 use Rattle.codec.specs.Numbers.{numberAt, signedAt, numberBytes, unsignedOf}
 use Rattle.codec.specs.Headers.{headerOf, headerInRange, wordOf}
 use Rattle.codec.specs.declared.amounts.Bytes.{Bytes}
-use Rattle.codec.specs.declared.amounts.Elements.{Elements}
-use Rattle.codec.specs.declared.number.Cursor.{Cursor}
 use Rattle.codec.specs.declared.number.Number.{Number}
 use Rattle.codec.specs.declared.number.Number.the-variants.{Value, NoNumber}
 use Rattle.codec.specs.declared.number.Signed.{Signed}
 use Rattle.codec.specs.declared.number.Signed.the-variants.{Whole, NoWhole}
-use Rattle.codec.specs.declared.header.Header.{Header}
 use Rattle.codec.specs.declared.header.Word.{Word}
 use Rattle.codec.specs.declared.header.Word.the-variants as word
 use Rattle.codec.specs.declared.operation.Dimension.{Dimension}
@@ -233,6 +230,11 @@ operationBytes free (op.Modifier m) =
     ++ numberBytes (m .displacement)
 operationBytes free (op.End register) = numberBytes 4 ++ numberBytes register
 operationBytes free (op.Run register count) = numberBytes 5 ++ numberBytes register ++ numberBytes count
+
+-- operations one behind the other, the free bits zero
+unfoldable pub bytesOfAll : List Operation → List ℕ
+bytesOfAll [] = []
+bytesOfAll (o ∷ os) = operationBytes 0 o ++ bytesOfAll os
 
 -- a copy's second source is its first
 abbrev pub calculationInRange : Calculation → Bool

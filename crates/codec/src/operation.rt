@@ -143,7 +143,7 @@ impl Action {
 }
 
 // Whether an offset or a stride is in its range.
-fn in_reach(z: i64) -> bool
+pub fn in_reach(z: i64) -> bool
     ensures { λ r. ⌜ r ≡ isReach z ⌝ }
 {
     if z < -1048576 {

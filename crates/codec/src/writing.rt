@@ -10,6 +10,7 @@ use crate::operation::Dimension;
 use crate::operation::Modifier;
 use crate::operation::Operation;
 use crate::operation::Parameter;
+use crate::operation::in_reach;
 ghost use mathlib.Core.Path.{_≡_};
 ghost use mathlib.Core.Bool.{true};
 ghost use mathlib.Core.List.{[], _∷_, _++_};
@@ -173,16 +174,6 @@ pub fn put_header(buf: &mut [u8], at: usize, h: Header) -> Written
         return put(buf, at, t);
     }
     Written::OutOfRange
-}
-
-// Whether an offset or a stride is in its range.
-fn in_reach(n: i64) -> bool
-    ensures { λ r. ⌜ r ≡ isReach n ⌝ }
-{
-    if n < -1048576 {
-        return false;
-    }
-    n <= 1048576
 }
 
 fn base_in_range(b: Bytes) -> bool

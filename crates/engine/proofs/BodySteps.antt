@@ -1,13 +1,12 @@
 -- A body's steps one at a time: naming a register, and being read.
-use Prim.Native.Nat.{ℕ, zero, suc, _+_, _-_, _≤_, _<_}
+use Prim.Native.Nat.{ℕ, suc, _+_, _-_, _≤_, _<_}
 use mathlib.Core.Path.{_≡_, refl, sym, _∙_, ap, ap₂}
-use mathlib.Core.List.{List, [], _∷_, _++_, append-assoc, map}
-use mathlib.Core.Bool.{Bool, true, false, _||_}
+use mathlib.Core.List.{List, [], _∷_, _++_}
+use mathlib.Core.Bool.{true, false}
 use native.Mathlib.Omega.{arith}
 use native.Mathlib.Numerals.{add-one}
-use lib.ListN.{length, getD, take, drop, set, length-take, length-map}
+use lib.ListN.{length, getD, take, drop, set, length-take}
 use lib.Seq.{drop-cons, getD-take, take-suc-set}
-use lib.Dec.{eqb}
 use borrow.Author.Tests.{eq-eqb, ne-eqb}
 use Rattle.codec.specs.Operations.{calculationAt}
 use Rattle.codec.specs.declared.operation.Action.the-variants.{Copy}
@@ -88,7 +87,3 @@ unfolding bodyAt
 body-whole s n k at steps h =
     let m : n - k ≡ 0 = omega arith in
     ap (λ j. behind (take k steps) (bodyAt s j at)) m ∙ behind-whole (take k steps) at
-
--- the length of an array of structs, as the code's own account has it
-pub unmapped : (X Y : Type 0) (f : X → Y) (l : List X) (n : ℕ) → length (map f l) ≡ n → length l ≡ n
-unmapped X Y f l n e = sym (length-map l f) ∙ e

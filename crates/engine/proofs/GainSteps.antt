@@ -1,7 +1,7 @@
 -- Laws of gains as the code reckons them: by the whole index vector, and modifier after modifier.
 use Prim.Native.Nat.{ℕ, suc, _+_, _-_, _*_, _≤_, _<_}
 use mathlib.Core.Path.{_≡_, refl, sym, _∙_, ap}
-use mathlib.Core.List.{List, [], _∷_, _++_}
+use mathlib.Core.List.{List, [], _∷_}
 use mathlib.Core.Bool.{true, false}
 use native.Mathlib.Omega.{arith}
 use native.Mathlib.Numerals.{add-one}
@@ -15,7 +15,7 @@ use Rattle.codec.specs.declared.operation.Behaviour.{Behaviour}
 use Rattle.codec.specs.declared.operation.Behaviour.the-variants.{Add, Subtract}
 use Rattle.engine.specs.Loops.{sameParameter, ownerIndex, added}
 use Rattle.engine.specs.Rules.{sameBehaviour}
-use Rattle.engine.specs.Gains.{gainOf, gain, added-gain}
+use Rattle.engine.specs.Gains.{gainOf, gain, added-gain, gain-append}
 use Rattle.engine.specs.Registers.{noModifier}
 use Rattle.engine.specs.declared.stream.Modifier.{Modifier}
 
@@ -36,11 +36,6 @@ gain-here q b d v m p t h o =
     let z : suc d + (m .owner - suc d) ≡ m .owner = omega arith in
     let e : ownerIndex m d (drop (suc d) v) ≡ getD v (m .owner) 0 = getD-drop (suc d) v (m .owner - suc d) 0 ∙ ap (λ j. getD v j 0) z in
     rw (p, eq-eqb (m .target) d t, h, e)
-
-gain-append : (q : Parameter) (b : Behaviour) (d : ℕ) (outer : List ℕ) (xs ys : List Modifier) → gain q b d outer (xs ++ ys) ≡ gain q b d outer xs + gain q b d outer ys
-unfolding gain
-gain-append q b d outer [] ys = omega arith
-gain-append q b d outer (m ∷ ms) ys = omega (arith, gain-append q b d outer ms ys)
 
 gain-one : (q : Parameter) (b : Behaviour) (d : ℕ) (outer : List ℕ) (m : Modifier) → gain q b d outer (m ∷ []) ≡ gainOf q b d outer m
 unfolding gain

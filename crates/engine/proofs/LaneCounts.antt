@@ -1,9 +1,9 @@
 -- How many lanes a `Lanes` has.
-use Prim.Native.Nat.{ℕ, _*_, _≤_, min}
+use Prim.Native.Nat.{ℕ, _*_, _≤_}
 use mathlib.Core.Path.{_≡_, _∙_}
 use native.Mathlib.Omega.{arith}
-use native.Mathlib.Nat.{le-mul-of-pos-right, mul-comm}
-use lib.ListN.{length, take, length-take}
+use native.Mathlib.Nat.{le-mul-of-pos-right}
+use lib.ListN.{length, length-take}
 use Rattle.engine.specs.Plans.{laneList}
 use Rattle.engine.specs.declared.memory.Lanes.{Lanes}
 

@@ -4,7 +4,7 @@ use mathlib.Core.Path.{_≡_, refl, sym, _∙_, ap}
 use mathlib.Core.List.{List, [], _∷_, _++_, append-assoc, append-nil, map}
 use native.Mathlib.Omega.{arith}
 use native.Mathlib.Numerals.{add-one}
-use native.Mathlib.Nat.{mul-le-mul-right, suc-mul, mul-le-mul-left, sub-zero}
+use native.Mathlib.Nat.{mul-le-mul-right, suc-mul, sub-zero}
 use lib.ListN.{length, getD, take, drop, set, replicate, length-append, length-replicate}
 use lib.Seq.{sets, sets-eq, take-suc, take-suc-set, getD-take, length-take-le, take-at, drop-append-add, take-append-add}
 use lib.Pow.{pow-pos}
@@ -38,12 +38,6 @@ narrow-more w values k {x} h n p = rw (taken-more values k {x = x} {y = x} h ref
 -- one lane of the first n
 pub narrow-at : (w n : ℕ) (xs : List ℕ) (k : ℕ) → Narrow w (take n xs) → k < n → getD xs k 0 < 2 ^ (8 * w)
 narrow-at w n xs k h p = rw (getD-take n xs k 0 p) at (h k)
-
--- lanes of at least a byte each in 64 bytes
-pub count-small : (n w : ℕ) → 1 ≤ w → n * w ≤ 64 → n ≤ 64
-count-small n w h p =
-    let q : n * 1 ≤ n * w = mul-le-mul-left n h in
-    omega arith
 
 -- lane k of n lanes of w bytes ends within them
 pub lane-room : (k n w m : ℕ) → k < n → n * w ≤ m → k * w + w ≤ m

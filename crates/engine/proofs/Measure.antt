@@ -1,7 +1,7 @@
 -- A chunk measured element by element: what a plan has done after k elements, and one element more.
-use Prim.Native.Nat.{ℕ, zero, suc, _+_, _-_, _≤_, _<_, min}
+use Prim.Native.Nat.{ℕ, suc, _+_, _-_, _≤_, _<_, min}
 use mathlib.Core.Path.{_≡_, refl, sym, _∙_, ap, ap₂, subst}
-use mathlib.Core.List.{List, [], _∷_, _++_, map}
+use mathlib.Core.List.{List, [], _∷_, _++_, map-append}
 use mathlib.Core.Bool.{Bool, true, false, not, _||_}
 use native.Mathlib.Omega.{arith}
 use native.Mathlib.Numerals.{add-one}
@@ -12,19 +12,17 @@ use borrow.Author.Tests.{ltb-true, ltb-false, lt-ltb}
 use Rattle.codec.specs.declared.amounts.Bytes.{Bytes}
 use Rattle.codec.specs.declared.header.Coupling.{Coupling}
 use Rattle.codec.specs.declared.header.Coupling.the-variants.{Uncoupled, Coupled}
-use Rattle.engine.specs.Loops.{sizeAt, loops, elements}
-use Rattle.engine.specs.Chunks.{groups, groupsOf, chunk, chunkOf, height, differ}
+use Rattle.engine.specs.Loops.{sizeAt, elements}
+use Rattle.engine.specs.Chunks.{groups, groupsOf, chunk, height, differ}
 use Rattle.engine.specs.FlagLaws.{differNext, height-between}
 use Rattle.engine.specs.GroupLaws.{leftInGroup}
 use Rattle.engine.specs.ChunkLaws.{Covered, covered, chunk-length, chunk-elements}
 use Rattle.engine.specs.PassLaws.{group-goes-on, group-ends, group-last, group-uncoupled}
 use Rattle.engine.specs.Addresses.{address}
 use Rattle.engine.specs.Registers.{indexOf, shapeOf, movedBy}
-use Rattle.engine.specs.Good.{Accepted}
 use Rattle.engine.specs.IndexLaws.{roomy, element-length, address-index}
 use Rattle.engine.specs.Places.{placeAt, Onward, addressesOf, stopsAt, Ready, Planned}
 use Rattle.engine.specs.declared.stream.Shape.{Shape}
-use Rattle.engine.specs.declared.stream.Pattern.{Pattern}
 use Rattle.engine.specs.declared.place.Place.{Place}
 use Rattle.engine.specs.declared.register.Register.{Register}
 
@@ -84,10 +82,6 @@ pub record Going (r : Register) (most k : ℕ) (found : Bool) (place : Place) (h
 take-drop-suc : (k n : ℕ) (es : List (List ℕ)) → n + k < length es → take (suc k) (drop n es) ≡ take k (drop n es) ++ (getD es (n + k) [] ∷ [])
 take-drop-suc k n es h =
     take-suc (drop n es) k [] (simp length-drop (omega arith)) ∙ ap (λ v. take k (drop n es) ++ (v ∷ [])) (getD-drop n es k [])
-
-map-append : {A B : Type 0} (f : A → B) (l m : List A) → map f (l ++ m) ≡ map f l ++ map f m
-map-append f [] m = refl
-map-append f (x ∷ l) m = ap (λ t. f x ∷ t) (map-append f l m)
 
 module _ (r : Register) (y : Ready r) (most k : ℕ) (found : Bool) (place : Place) (h : ℕ) (addresses : List Bytes) (g : Going r most k found place h addresses) (f : k < most) (fits : most ≤ 64) where
   here : place ≡ placeAt (r .pattern) (r .width) (indexOf (getD (elements (shapeOf r)) (r .moved + k) []))

@@ -1,15 +1,15 @@
 -- A register after its stream moved, from what the walk says of the position.
-use Prim.Native.Nat.{ℕ, zero, suc, _+_, _≤_, _<_}
-use mathlib.Core.Path.{_≡_, refl, sym, _∙_, ap, ap₂}
+use Prim.Native.Nat.{ℕ, _+_, _<_}
+use mathlib.Core.Path.{_≡_, refl, sym, _∙_, ap}
 use mathlib.Core.List.{List, []}
 use mathlib.Core.Bool.{Bool, true, false, cond}
 use native.Mathlib.Omega.{arith}
 use lib.ListN.{length, getD, replicate, List·getD-eq-default}
-use lib.Dec.{ltb, leb}
+use lib.Dec.{ltb}
 use borrow.Author.Tests.{ltb-true, ltb-false, lt-leb, le-leb}
 use Rattle.engine.specs.Loops.{elements}
 use Rattle.engine.specs.Chunks.{height}
-use Rattle.engine.specs.Registers.{shapeOf, indexOf, stateAfter, standing, movedTo, movedBy}
+use Rattle.engine.specs.Registers.{shapeOf, indexOf, stateAfter, standing, movedTo}
 use Rattle.engine.specs.declared.stream.Shape.{Shape}
 use Rattle.engine.specs.declared.register.State.the-variants.{Open, Finished}
 use Rattle.engine.specs.declared.register.Register.{Register}

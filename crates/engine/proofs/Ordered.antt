@@ -1,32 +1,31 @@
 -- A calculation's checks on its operands, in document 01's order, and what it does once none applies.
-use Prim.Native.Nat.{ℕ, zero, suc, _+_, _*_, _/_, _≤_, _<_, min}
-use mathlib.Core.Path.{_≡_, refl, sym, _∙_, ap, ap₂, subst}
+use Prim.Native.Nat.{ℕ, _*_, _/_, _≤_}
+use mathlib.Core.Path.{_≡_, refl, sym, _∙_, ap, ap₂}
 use mathlib.Core.List.{List, [], _∷_, _++_}
 use mathlib.Core.Bool.{Bool, true, false, cond, not, _&&_, _||_}
 use native.Mathlib.Omega.{arith}
 use native.Mathlib.Nat.{le-div-iff-mul-le, le-refl}
 use lib.ListN.{length, take}
 use lib.Dec.{eqb, ltb}
-use borrow.Author.Tests.{eqb-true, eq-eqb, ltb-false, not-false}
+use borrow.Author.Tests.{eqb-true, ltb-false, not-false}
+use Rattle.codec.specs.TestLaws.{or-false, and-false}
 use Rattle.codec.specs.declared.operation.Action.{Action}
 use Rattle.codec.specs.declared.refusal.Refusal.{Refusal}
 use Rattle.codec.specs.declared.refusal.Refusal.the-variants.{Widths, LaneCounts, Outside}
-use Rattle.engine.specs.Chunks.{chunk, groupsOf}
+use Rattle.engine.specs.Chunks.{groupsOf}
 use Rattle.engine.specs.ChunkLaws.{chunk-lanes}
 use Rattle.engine.specs.Lanes.{lane, lanewise}
 use Rattle.engine.specs.Memory.{holding}
 use Rattle.engine.specs.Checks.{Check, _if_, firstOf}
 use Rattle.engine.specs.CheckLaws.{first-stops, first-goes}
-use Rattle.engine.specs.Calculate.{given, outside, sourceChecks, destinationChecks, checksOn, readFrom, writtenTo, memoryAfter}
-use Rattle.engine.specs.CalculationLaws.{or-false, and-false}
+use Rattle.engine.specs.Calculate.{given, outside, sourceChecks, destinationChecks}
 use Rattle.engine.specs.EffectLaws.{open-store, given-fits, lanewise-length}
-use Rattle.engine.specs.Registers.{isOpen, isLoad, openLoad, openStore, shapeOf, nextChunk}
-use Rattle.engine.specs.Good.{IsWidth, Good}
+use Rattle.engine.specs.Registers.{isOpen, openLoad, openStore, shapeOf, nextChunk}
+use Rattle.engine.specs.Good.{Good}
 use Rattle.engine.specs.GoodLaws.{next, width-some}
-use Rattle.engine.specs.Configure.{unlessBecause}
 use Rattle.engine.specs.Plans.{allWithin, storedAt}
 use Rattle.engine.proofs.LaneCounts.{few-lanes}
-use Rattle.engine.specs.Operands.{Operates, lanesOf, resultsOn, whyOn, Calculated, Fitting, lanesOut, CarriedOut}
+use Rattle.engine.specs.Operands.{Operates, resultsOn, whyOn, Calculated, Fitting, lanesOut, CarriedOut}
 use Rattle.engine.specs.OperandLaws.{source-count, source-outside, source-lanes, source-after, target-count, target-outside, target-after, target-memory}
 use Rattle.engine.specs.declared.check.Why.{Why}
 use Rattle.engine.specs.declared.check.Why.the-variants.{Nothing, Because}

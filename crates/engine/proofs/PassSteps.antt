@@ -4,7 +4,7 @@
 --   step-on, step-no                     a calculation that is done, or refused
 --   Passing, passing, passing-on         within a pass
 --   Passes, passes-begun, passes-on      between passes
-use Prim.Native.Nat.{ℕ, zero, suc, _+_, _*_, _-_, _≤_, _<_}
+use Prim.Native.Nat.{ℕ, _+_, _*_, _≤_, _<_}
 use mathlib.Core.Path.{_≡_, refl, sym, _∙_, ap, ap₂, subst}
 use mathlib.Core.List.{List, [], _∷_}
 use mathlib.Core.Bool.{Bool, true, false, cond}
@@ -13,15 +13,13 @@ use native.Mathlib.Numerals.{add-one}
 use lib.ListN.{length, getD, take, drop, set, length-take, length-drop}
 use lib.Seq.{drop-cons, getD-take}
 use Rattle.codec.specs.declared.refusal.Refusal.{Refusal}
-use Rattle.codec.specs.declared.operation.Calculation.{Calculation}
 use Rattle.engine.specs.Configure.{unlessBecause}
 use Rattle.engine.specs.CountLaws.{few}
 use Rattle.engine.specs.Registers.{isOpen, shapeOf, toCome, reg}
 use Rattle.engine.specs.Loops.{elements}
-use Rattle.engine.specs.Rules.{product, highsOf}
 use Rattle.engine.specs.Calculate.{World, refusalOf, effect, results, readFrom, writtenTo, memoryAfter}
 use Rattle.engine.specs.Operands.{whyOn, resultsOn, Calculated}
-use Rattle.engine.specs.Run.{Progress, begun, counted, step, pass, execute}
+use Rattle.engine.specs.Run.{Progress, counted, step, pass, execute}
 use Rattle.engine.specs.Sheets.{isLoopRegister}
 use Rattle.engine.specs.Good.{AllGood, Good}
 use Rattle.engine.specs.CalculationLaws.{Named}

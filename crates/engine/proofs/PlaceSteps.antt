@@ -1,23 +1,21 @@
 -- Addresses that are not below 0, and whether they lie inside memory.
 use Prim.Native.Nat.{ℕ, zero, suc, _+_, _≤_, _<_, _^_}
 use mathlib.Core.Path.{_≡_, refl, sym, _∙_, ap, subst}
-use mathlib.Core.List.{List, [], _∷_, _++_, map}
+use mathlib.Core.List.{List, [], _∷_, _++_}
 use mathlib.Core.Bool.{Bool, true, false, _&&_}
 use native.Mathlib.Omega.{arith}
 use native.Mathlib.Numerals.{add-one}
 use lib.Dec.{T, leb}
-use lib.ListN.{length, getD, take, length-map}
+use lib.ListN.{length, getD, take}
 use lib.IntN.{ℤ, pos, negsuc, natAbs}
 use lib.Signed.{mag, ltZ, nonNeg}
 use borrow.Author.Tests.{leb-true, ltb-true}
 use lib.Seq.{take-suc, getD-take, length-take-le}
+use Rattle.codec.specs.TestLaws.{never, never-true, both}
 use Rattle.codec.specs.declared.amounts.Bytes.{Bytes}
 use Rattle.engine.specs.Loops.{natural}
 use Rattle.engine.specs.Addresses.{noBytes, inside}
 use Rattle.engine.specs.Plans.{allWithin}
-
-true-false : true ≡ false → ⊥
-true-false e = let z : _≡_ {A = ℕ} 0 1 = cc in omega arith
 
 pub upright : (z : ℤ) → nonNeg z ≡ true → T (nonNeg z)
 upright z e = subst T (sym e) tt
@@ -25,11 +23,11 @@ upright z e = subst T (sym e) tt
 -- the size of an address that is not below 0 is its place
 pub place-is : (z : ℤ) → nonNeg z ≡ true → natAbs z ≡ natural z
 place-is (pos n) e = refl
-place-is (negsuc n) e = absurd (true-false (sym e))
+place-is (negsuc n) e = never e
 
 pub place-small : (z : ℤ) → mag z < 2 ^ 63 → nonNeg z ≡ true → natural z < 2 ^ 63
 place-small (pos n) h e = h
-place-small (negsuc n) h e = absurd (true-false (sym e))
+place-small (negsuc n) h e = never e
 
 pub below-zero : (z : ℤ) → ltZ z (pos 0) ≡ true → nonNeg z ≡ false
 below-zero (pos n) e = let h : n < 0 = ltb-true n 0 e in absurd (omega arith)
@@ -37,7 +35,7 @@ below-zero (negsuc n) e = refl
 
 pub not-below : (z : ℤ) → ltZ z (pos 0) ≡ false → nonNeg z ≡ true
 not-below (pos n) e = refl
-not-below (negsuc n) e = absurd (true-false e)
+not-below (negsuc n) e = never-true e
 
 -- inside, by the place
 pub inside-place : (len width : ℕ) (z : ℤ) → nonNeg z ≡ true → leb (natural z + width) len ≡ inside len width z
@@ -45,10 +43,6 @@ inside-place len width z e = rw (e, place-is z e)
 
 pub outside-below : (len width : ℕ) (z : ℤ) → nonNeg z ≡ false → false ≡ inside len width z
 outside-below len width z e = rw e
-
-both : (s t : Bool) → s && t ≡ true → (s ≡ true) × (t ≡ true)
-both true t e = (refl, e)
-both false t e = absurd (true-false (sym e))
 
 -- an element inside memory: its place, and room behind it
 inside-room : (len width : ℕ) (z : ℤ) → inside len width z ≡ true → (nonNeg z ≡ true) × (natural z + width ≤ len)
@@ -104,7 +98,3 @@ module _ (len width : ℕ) (l : List Bytes) (k : ℕ) where
 
   pub within-more : k < length l → allWithin len width (take k l) ≡ true → inside len width (getD l k noBytes .0) ≡ true → allWithin len width (take (k + 1) l) ≡ true
   within-more h e f = rw (add-one k, take-suc l k noBytes h) (within-snoc len width (take k l) (getD l k noBytes) e f)
-
--- an array of structs is as long as what the logic holds of it
-pub unmapped : (X Y : Type 0) (f : X → Y) (l : List X) (n : ℕ) → length (map f l) ≡ n → length l ≡ n
-unmapped X Y f l n p = sym (length-map l f) ∙ p

@@ -17,8 +17,10 @@ use lib.ListN.{length, take}
 use lib.Seq.{length-take-le}
 use lib.Dec.{ltb}
 use borrow.Author.Tests.{ltb-true, ltb-false, lt-ltb, le-ltb}
+use Rattle.codec.specs.TestLaws.{never}
 use Rattle.codec.specs.Refusals.{is-numbered}
 use Rattle.codec.specs.NumberLaws.{areBytes, Stands, stands-join}
+use Rattle.codec.specs.StandingLaws.{stands-all}
 use Rattle.codec.specs.Operations.{operationAt, operationBytes}
 use Rattle.codec.specs.declared.operation.Operation.{Operation}
 use Rattle.codec.specs.declared.operation.Operation.the-variants as op
@@ -32,7 +34,6 @@ use Rattle.engine.specs.Calculate.{World}
 use Rattle.engine.specs.Run.{Progress, begun, execute}
 use Rattle.engine.specs.Sheets.{Ending, over, runs, refused, Calculations, whole, broken, isLoopRegister, bodyAt, endingOf, Prepared, onDecoded, prepare, allowed, onEnding, refusedAt, run}
 use Rattle.engine.specs.GoodLaws.{First, first-because, fresh-machine-good}
-use Rattle.engine.specs.CalculationLaws.{never}
 use Rattle.engine.specs.EndLaws.{Running}
 use Rattle.engine.specs.SheetLaws.{onward, onward-next, onward-over, prepare-onward, run-lengths, run-ends, Passes, run-passes}
 use Rattle.engine.specs.Allowed.{Fits, Accepts}
@@ -41,7 +42,7 @@ use Rattle.engine.specs.Histories.{Ran}
 use Rattle.engine.specs.RanLaws.{execute-ran, ran-one}
 use Rattle.engine.specs.Promise1.{Unread, Configures, Written, after, Turns, BodyAt, LoopsOn, RunAt, world, Before, Right, Encoded, Promise1}
 use Rattle.engine.specs.ReadingLaws.{read-written, unread-refused, refused-unread}
-use Rattle.engine.specs.StandLaws.{written-on, decoded-refused, onward-written, turns-onward, turns-snoc, turns-on, body-on, body-whole, body-broken, Breaks, body-either, turns-cut, bytes-cut, turns-bytes, body-bytes, stands-all}
+use Rattle.engine.specs.StandLaws.{written-on, decoded-refused, onward-written, turns-onward, turns-snoc, turns-on, body-on, body-whole, body-broken, Breaks, body-either, turns-cut, bytes-cut, turns-bytes, body-bytes}
 use Rattle.engine.specs.declared.check.Why.{Why}
 use Rattle.engine.specs.declared.check.Why.the-variants.{Nothing, Because}
 use Rattle.engine.specs.declared.register.Machine.{Machine}

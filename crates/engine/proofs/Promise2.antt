@@ -1,30 +1,27 @@
 -- Promise 2 holds of every sheet: each element once.
 --
 --   ended-stream, ended-inside    an open or finished register has a stream that was ended; such a stream is in its register, nothing moved
---   run-named                     the calculations of a run name registers
 --   at-each, at-end, streams      the streams at every moment of a run; at its end; both together
 --   promise2
-use Prim.Native.Nat.{ℕ, _%_, _<_}
+use Prim.Native.Nat.{ℕ, _≤_, _<_}
 use mathlib.Core.Path.{_≡_, refl, sym, ap, subst}
 use mathlib.Core.Logic.{_⊎_, inl, inr}
-use mathlib.Core.List.{List, [], map}
+use mathlib.Core.List.{List, []}
 use native.Mathlib.Omega.{arith}
-use lib.ListN.{length, take, length-map}
+use lib.ListN.{length, take}
 use lib.Seq.{take-length}
 use Rattle.codec.specs.NumberLaws.{areBytes}
 use Rattle.codec.specs.declared.operation.Operation.{Operation}
 use Rattle.engine.specs.Registers.{isFinished, reg}
 use Rattle.engine.specs.Calculate.{World}
 use Rattle.engine.specs.Run.{Progress, begun, execute}
-use Rattle.engine.specs.CalculationLaws.{Named}
-use Rattle.engine.specs.HistoryLaws.{AllNamed}
 use Rattle.engine.specs.EndLaws.{Running}
-use Rattle.engine.specs.Histories.{Entry, worldAt, movedOf, Ran}
+use Rattle.engine.specs.Histories.{worldAt, movedOf, Ran}
 use Rattle.engine.specs.Given.{Stream, Given, none, going, ended, givenFor}
 use Rattle.engine.specs.GivenLaws.{Inside, Has, before-has}
 use Rattle.engine.specs.MomentLaws.{inside-finished, inside-moment}
-use Rattle.engine.specs.MovingLaws.{world-last, in-turn-named, each-named, follow-inside}
-use Rattle.engine.specs.RanLaws.{execute-ran}
+use Rattle.engine.specs.MovingLaws.{world-last, follow-inside}
+use Rattle.engine.specs.RanLaws.{ran-named, execute-ran}
 use Rattle.engine.proofs.Promise1.{sheet-runs}
 use Rattle.engine.specs.Promise1.{Before, LoopsOn, world}
 use Rattle.engine.specs.Promise2.{Streams, Promise2}
@@ -55,24 +52,15 @@ ended-inside : (s : List ℕ) (os : List Operation) (at : ℕ) (m : Machine) →
     → Inside t [] (reg m i)
 ended-inside s os at m b i h t e = subst (λ g. Has g (reg m i)) e (before-has s os at m i b h)
 
--- the calculations of a run name registers
-run-named : (vl loop : ℕ) (body : List Placed) (w : World) (r : Progress) → AllNamed body → (q : Ran vl loop body w r)
-    → AllNamed (map (λ (e : Entry). e .calculation) (q .entries))
-run-named vl loop body w r nm q =
-    let cs : List Placed = map (λ (e : Entry). e .calculation) (q .entries) in
-    each-named cs
-    (λ k h. subst (λ (c : Placed). Named (c .calculation)) (sym (q .turns k (subst (λ n. k < n) (length-map (q .entries) (λ (e : Entry). e .calculation)) h)))
-    (in-turn-named body nm (k % length body)))
-
 module _ (vl : ℕ) (s memory : List ℕ) (os : List Operation) (at : ℕ) (m : Machine) (loop : ℕ) (cs : List Placed) (r : Progress)
-    (b : Before s os at m) (g : Running vl loop cs (begun (world m memory))) (q : Ran vl loop cs (world m memory) r)
+    (b : Before s os at m) (g : Running vl loop cs (begun (world m memory))) (some : 1 ≤ length cs) (q : Ran vl loop cs (world m memory) r)
   where
     -- a stream that was ended, at every moment of the run
     at-each : (i : ℕ) → i < 32 → (t : Stream) → givenFor i os ≡ ended t → (k : ℕ)
         → Inside t (movedOf (take k (q .entries)) i) (reg (worldAt (world m memory) (q .entries) k .machine) i)
     at-each i h t e k =
         follow-inside vl (q .entries) (world m memory) (r .world) i t [] k (g .lanes) (g .good)
-        (run-named vl loop cs (world m memory) r (g .named) q) (q .follow) h (ended-inside s os at m b i h t e)
+        (ran-named vl loop cs (world m memory) g some r q) (q .follow) h (ended-inside s os at m b i h t e)
 
     -- at its end
     at-end : (i : ℕ) → i < 32 → (t : Stream) → givenFor i os ≡ ended t → Inside t (movedOf (q .entries) i) (reg (r .world .machine) i)
@@ -101,5 +89,5 @@ promise2 vl s memory a = record {
   runs = λ f os at m loop cs b r l.
       let q = sheet-runs vl s memory a os at m loop cs b f r l in
       let w : World = world m memory in
-      subst (Streams vl os m memory loop cs) (sym (q .executes)) (streams vl s memory os at m loop cs (execute vl loop cs w) b (q .running) (execute-ran vl loop cs w (q .running) (q .some)) l);
+      subst (Streams vl os m memory loop cs) (sym (q .executes)) (streams vl s memory os at m loop cs (execute vl loop cs w) b (q .running) (q .some) (execute-ran vl loop cs w (q .running) (q .some)) l);
 }

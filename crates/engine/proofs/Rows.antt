@@ -1,20 +1,19 @@
 -- A step along a row, and the height of the flags between two elements.
-use Prim.Native.Nat.{ℕ, zero, suc, _+_, _-_, _≤_, _<_}
-use mathlib.Core.Path.{_≡_, refl, sym, _∙_, ap, ap₂, subst}
-use mathlib.Core.List.{List, [], _∷_, _++_, map}
-use mathlib.Core.Bool.{Bool, true, false, cond}
+use Prim.Native.Nat.{ℕ, suc, _+_, _-_, _≤_, _<_}
+use mathlib.Core.Path.{_≡_, sym, _∙_, ap, ap₂}
+use mathlib.Core.List.{List, [], _∷_}
+use mathlib.Core.Bool.{true}
 use native.Mathlib.Omega.{arith}
 use native.Mathlib.Numerals.{add-one}
-use lib.ListN.{length, getD, drop, set, replicate}
+use lib.ListN.{length, getD, drop, set}
 use lib.Seq.{getD-set-same, drop-set-lt}
-use lib.IntN.{_+ℤ_}
 use Rattle.engine.specs.Loops.{sizeAt, elements}
 use Rattle.engine.specs.Chunks.{differ, height}
 use Rattle.engine.specs.FlagLaws.{differ-pad, differ-at, height-between, height-end}
 use Rattle.engine.specs.Addresses.{address}
 use Rattle.engine.specs.AddressLaws.{address-next}
 use Rattle.engine.specs.Registers.{indexOf}
-use Rattle.engine.specs.Walk.{at, after, Stands}
+use Rattle.engine.specs.Walk.{after, Stands}
 use Rattle.engine.specs.WalkLaws.{at-found, index-pad}
 use Rattle.engine.specs.IndexLaws.{Roomy, element-length, walk-next}
 use Rattle.engine.specs.Places.{placeAt, alongOf}

@@ -1,14 +1,13 @@
 -- The operations of a sheet one at a time, one law for each way that a turn of the reader goes.
 use Prim.Native.Nat.{ℕ, zero, suc, _-_, _≤_, _<_}
-use mathlib.Core.Path.{_≡_, refl, sym, _∙_, ap}
+use mathlib.Core.Path.{_≡_, refl, _∙_, ap}
 use mathlib.Core.List.{List}
-use mathlib.Core.Bool.{Bool, true, false, _&&_}
+use mathlib.Core.Bool.{true}
 use native.Mathlib.Omega.{arith}
 use native.Mathlib.Numerals.{sub-one}
 use lib.ListN.{length}
-use lib.Dec.{ltb, leb}
-use borrow.Author.Tests.{lt-ltb, le-ltb, leb-true}
-use Rattle.codec.specs.HeaderLaws.{both}
+use borrow.Author.Tests.{lt-ltb, le-ltb}
+use Rattle.codec.specs.RangeLaws as ranges
 use Rattle.codec.specs.Operations.{operationAt, operationInRange}
 use Rattle.codec.specs.declared.number.Cursor.{Cursor}
 use Rattle.codec.specs.declared.operation.Operation.{Operation}
@@ -16,10 +15,9 @@ use Rattle.codec.specs.declared.operation.Operation.the-variants as op
 use Rattle.codec.specs.declared.operation.Decoded.the-variants as decoded
 use Rattle.codec.specs.declared.refusal.Refusal.{Refusal}
 use Rattle.engine.specs.Configure.{whyNot, configured}
-use Rattle.engine.specs.Sheets.{Prepared, over, refused, endingOf, bodyAt, onOperation, onDecoded, operationsFrom}
+use Rattle.engine.specs.Sheets.{over, refused, endingOf, bodyAt, onOperation, onDecoded, operationsFrom}
 use Rattle.engine.specs.Bodies.{turnOf}
 use Rattle.engine.specs.declared.sheet.Turn.the-variants as turn
-use Rattle.engine.specs.declared.check.Why.{Why}
 use Rattle.engine.specs.declared.check.Why.the-variants.{Nothing, Because}
 use Rattle.engine.specs.declared.register.Machine.{Machine}
 
@@ -85,6 +83,5 @@ run-range (op.End a) i k r t = absurd (let z : _≡_ {A = ℕ} 0 1 = cc in omega
 run-range (op.Run a b) i k r t =
     let u : a ≡ i = cc in
     let v : b ≡ k = cc in
-    let p = both (leb a 31) (leb 1 b && leb b 16) r in
-    let q = both (leb 1 b) (leb b 16) (p .1) in
-    (omega (arith, leb-true a 31 (p .0), u), omega (arith, leb-true b 16 (q .1), v))
+    let p = ranges.run-range a b r in
+    (omega (arith, p .0, u), omega (arith, p .1, v))

@@ -1,11 +1,11 @@
 -- The laws of a search in the code's words: d - 1, d + 1.
 use Prim.Native.Nat.{ℕ, zero, suc, _+_, _-_, _≤_, _<_}
 use mathlib.Core.Path.{_≡_, refl, sym, _∙_, ap, subst}
-use mathlib.Core.List.{List, [], _∷_}
+use mathlib.Core.List.{List, _∷_}
 use native.Mathlib.Omega.{arith}
 use native.Mathlib.Numerals.{add-one, sub-one}
 use native.Mathlib.Decide.{ℕ-discrete}
-use lib.ListN.{getD, drop, set, length, length-set}
+use lib.ListN.{getD, drop, set, length}
 use lib.Seq.{drop-cons, drop-set-lt, getD-set-same, getD-set-other, getD-drop}
 use Rattle.engine.specs.Loops.{sizeAt}
 use Rattle.engine.specs.BoundLaws.{Under, lastsFrom, lasts-next, under-more}

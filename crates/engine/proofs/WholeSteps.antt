@@ -1,23 +1,19 @@
 -- A whole sheet, from what its operations told.
-use Prim.Native.Nat.{ℕ, _%_, _≤_, _<_}
-use mathlib.Core.Path.{_≡_, refl, sym, _∙_, ap, subst}
+use Prim.Native.Nat.{ℕ, _≤_, _<_}
+use mathlib.Core.Path.{_≡_, sym, _∙_, ap, subst}
 use mathlib.Core.List.{List}
-use mathlib.Core.Bool.{Bool, true, false, cond, _&&_}
-use native.Mathlib.Omega.{arith}
+use mathlib.Core.Bool.{true, false, cond}
 use lib.ListN.{length}
-use lib.Dec.{leb, eqb}
-use borrow.Author.Tests.{leb-true}
 use Rattle.codec.specs.NumberLaws.{areBytes}
-use Rattle.codec.specs.HeaderLaws.{both}
 use Rattle.codec.specs.declared.refusal.Refusal.the-variants.{Lengths}
 use Rattle.engine.specs.Registers.{freshMachine}
-use Rattle.engine.specs.Run.{Progress}
 use Rattle.engine.specs.Sheets.{isLoopRegister, operationsFrom, allowed, refusedAt, onEnding, prepare, run}
 use Rattle.engine.specs.Bodies.{bodyOf, endingIs, preparedIs}
 use Rattle.engine.specs.Good.{AllGood}
 use Rattle.engine.specs.GoodLaws.{fresh-machine-good}
 use Rattle.engine.specs.HistoryLaws.{AllNamed}
-use Rattle.engine.specs.SheetLaws.{Runs, Follows, Left, all-named, operations-good, allowed-lanes}
+use Rattle.engine.specs.AllowedLaws.{fits-allowed}
+use Rattle.engine.specs.SheetLaws.{Runs, Follows, Left, all-named, operations-good}
 use Rattle.engine.specs.declared.register.Machine.{Machine}
 use Rattle.engine.specs.declared.sheet.Ending.{Ending}
 use Rattle.engine.specs.declared.sheet.Ending.the-variants as ended
@@ -36,11 +32,7 @@ not-allowed vl s memory m f e =
 
 -- an allowed vector length
 pub allowed-length : (vl len : ℕ) → allowed vl len ≡ true → (8 ≤ vl) × (vl ≤ 64)
-allowed-length vl len e =
-    let a = both (leb 8 vl && leb vl 64 && eqb (vl % 8) 0) (leb len 65536) e in
-    let b = both (leb 8 vl && leb vl 64) (eqb (vl % 8) 0) (a .0) in
-    let c = both (leb 8 vl) (leb vl 64) (b .0) in
-    (leb-true 8 vl (c .0), leb-true vl 64 (c .1))
+allowed-length vl len e = let f = fits-allowed vl len .0 e in (f .least, f .most)
 
 module _ (vl : ℕ) (s memory : List ℕ) (m : Machine) (f : m ≡ freshMachine) (p : Prepared) (told : preparedIs p ≡ operationsFrom (length s) s 0 m) where
   from-fresh : preparedIs p ≡ prepare s freshMachine

@@ -10,12 +10,13 @@ use Prim.Native.Nat.{ℕ, _+_, _/_, _≤_, _<_}
 use mathlib.Core.Path.{_≡_, refl, sym, _∙_, ap}
 use mathlib.Core.Logic.{_⊎_, inl, inr}
 use mathlib.Core.List.{List, [], map}
-use mathlib.Core.Bool.{Bool, true, false, not, _||_}
+use mathlib.Core.Bool.{true, false, not, _||_}
 use native.Mathlib.Omega.{arith}
 use lib.ListN.{length, take, drop}
 use lib.Seq.{take-take}
 use lib.Dec.{eqb}
 use borrow.Author.Tests.{eq-eqb, ne-eqb}
+use Rattle.codec.specs.TestLaws.{and-both, or-second}
 use Rattle.codec.specs.declared.operation.Calculation.{Calculation}
 use Rattle.engine.specs.Loops.{elements}
 use Rattle.engine.specs.Memory.{fetch, stored, contents, holding}
@@ -24,7 +25,6 @@ use Rattle.engine.specs.Calculate.{World, given, results, readFrom, writ
 use Rattle.engine.specs.Allowed.{Source, Sink}
 use Rattle.engine.specs.Good.{Good}
 use Rattle.engine.specs.ComeLaws.{lanes-some, come-open, next-front}
-use Rattle.engine.specs.CalculationLaws.{and-both}
 use Rattle.engine.specs.EffectLaws.{effect-reg, read-open, read-shut, written-open, written-shut}
 use Rattle.engine.specs.OperandLaws.{stored-front}
 use Rattle.engine.specs.StreamLaws.{movedIn, store-moves, load-moves, shut-idle, unnamed-idle}
@@ -70,11 +70,6 @@ open-load r (Source.load p k) o = and-both (isOpen (r .state)) (isLoad (r .kind)
 pub open-store : (r : Register) → Sink r → r .state ≡ Open → openStore r ≡ true
 open-store r (Sink.plain p) o = not-both r p o
 open-store r (Sink.store p k) o = and-both (isOpen (r .state)) (not (isLoad (r .kind))) (ap isOpen p) (ap (λ x. not (isLoad x)) k)
-
--- the second of two
-or-second : (a b : Bool) → b ≡ true → (a || b) ≡ true
-or-second true b e = refl
-or-second false b e = e
 
 -- a register that is a source, as the effect tells it
 pub is-source : (c : Calculation) (i : ℕ) → (i ≡ c .first) ⊎ (i ≡ c .second) → (eqb i (c .first) || eqb i (c .second)) ≡ true

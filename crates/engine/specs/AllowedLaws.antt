@@ -19,6 +19,7 @@ use lib.Dec.{T, leb, eqb}
 use lib.IntN.{ℤ, pos, negsuc}
 use lib.Signed.{_≤ℤ_, nonNeg}
 use borrow.Author.Tests.{leb-true, le-leb, lt-leb, ltb-false, le-ltb, eqb-true, eqb-false, eq-eqb, ne-eqb, not-false}
+use Rattle.codec.specs.TestLaws.{never, never-true, or-false, both, and-both}
 use Rattle.codec.specs.declared.header.Kind.{Kind}
 use Rattle.codec.specs.declared.header.Kind.the-variants.{Load, Store}
 use Rattle.codec.specs.declared.header.Coupling.{Coupling}
@@ -32,7 +33,7 @@ use Rattle.engine.specs.Configure.{openChecks, dimensionChecks, modifier
 use Rattle.engine.specs.Sheets.{names, isLoopRegister, allowed}
 use Rattle.engine.specs.BoundLaws.{lastsFrom, Passed, passed, highs-next}
 use Rattle.engine.specs.GoodLaws.{next, more, dimension-passed, modifier-passed}
-use Rattle.engine.specs.CalculationLaws.{never, never-true, or-false, both, and-both, nothing}
+use Rattle.engine.specs.CalculationLaws.{nothing}
 use Rattle.engine.specs.Allowed.{Fits, Opens, Extends, Modifies, lastsOutside, lowOf, highOf, Covers, Ends, Accepts}
 use Rattle.engine.specs.Histories.{noPlaced}
 use Rattle.engine.specs.Promise1.{Configures, LoopsOn}

@@ -7,7 +7,7 @@
 --   verdictOf, settledOf         what some operations of a sheet leave
 use Prim.Native.Nat.{ℕ}
 use mathlib.Core.Path.{_≡_}
-use mathlib.Core.List.{List, []}
+use mathlib.Core.List.{List}
 use lib.ListN.{take}
 use Rattle.engine.specs.Sheets.{Calculations, whole, broken, Ending, over, runs, refused}
 use Rattle.engine.specs.Sheets

@@ -4,6 +4,7 @@
 --   size-high, index-last     no size passes its high; an index below the size is at most the last one by its high
 --   Passed, passed            what a shape passes that neither low nor high refuses
 --   Bounded, bounded          low ≤ size ≤ high ≤ 4,096, and the exact size is not negative
+--   highs-none, highs-more, rule-none, rule-more   the highs and the rule of 8, dimension by dimension
 --   highs-next, lasts-next, under-more   one dimension more
 --   span-part                 what stands in a joined list stands in a part of it
 --   loops-under               no index of the loops passes the last one by its high
@@ -21,6 +22,7 @@ use lib.Dec.{ltb}
 use lib.IntN.{pos, subℕ, _+ℤ_}
 use lib.Signed.{nonNeg}
 use borrow.Author.Tests.{ltb-true, ltb-false, not-false}
+use Rattle.codec.specs.TestLaws.{or-false}
 use Rattle.codec.specs.declared.operation.Parameter.the-variants.{Size}
 use Rattle.codec.specs.declared.operation.Behaviour.the-variants.{Add, Subtract}
 use Rattle.engine.specs.Loops.{modifiersOf, added, natural, sizeAt, span, loops, elements}
@@ -46,14 +48,6 @@ index-last i n high p q = omega arith
 
 -- ---- what a shape passes that neither low nor high refuses
 
-or-first : (a b : Bool) → (a || b) ≡ false → a ≡ false
-or-first true b e = e
-or-first false b e = refl
-
-or-second : (a b : Bool) → (a || b) ≡ false → b ≡ false
-or-second true b e = absurd (let z : _≡_ {A = ℕ} 1 0 = ap (λ t. cond t 1 0) e in omega arith)
-or-second false b e = e
-
 -- low is not negative and high not above 4,096
 pub record Passed (s : Shape) (d : ℕ) : Type 0 where
   pub low : nonNeg (lowAt s d (lastsFrom s (suc d))) ≡ true
@@ -67,10 +61,10 @@ unfolding lowOrHighFrom
 here-passed s d n h =
     let low : Bool = nonNeg (lowAt s d (map lastIndex (highs s (suc d) n))) in
     let high : ℕ = highAt s d (map lastIndex (highs s (suc d) n)) in
-    let both : (not low || ltb 4096 high) ≡ false = or-first (not low || ltb 4096 high) (lowOrHighFrom s (suc d) n) h in (
-      not-false low (or-first (not low) (ltb 4096 high) both),
-      ltb-false 4096 high (or-second (not low) (ltb 4096 high) both),
-      or-second (not low || ltb 4096 high) (lowOrHighFrom s (suc d) n) h,
+    let both : (not low || ltb 4096 high) ≡ false = or-false (not low || ltb 4096 high) (lowOrHighFrom s (suc d) n) h .0 in (
+      not-false low (or-false (not low) (ltb 4096 high) both .0),
+      ltb-false 4096 high (or-false (not low) (ltb 4096 high) both .1),
+      or-false (not low || ltb 4096 high) (lowOrHighFrom s (suc d) n) h .1,
     )
 
 -- nor is any dimension from d on refused
@@ -123,6 +117,28 @@ bounded s h d q outer u =
     }
 
 -- ---- indices
+
+-- the highs of no dimension
+pub highs-none : (s : Shape) (d : ℕ) → highs s d 0 ≡ []
+unfolding highs
+highs-none s d = refl
+
+-- of one more
+pub highs-more : (s : Shape) (d n : ℕ) → highs s d (suc n) ≡ highAt s d (map lastIndex (highs s (suc d) n)) ∷ highs s (suc d) n
+unfolding highs
+highs-more s d n = refl
+
+-- the rule of 8 on no dimension
+pub rule-none : (s : Shape) (d : ℕ) → lowOrHighFrom s d 0 ≡ false
+unfolding lowOrHighFrom
+rule-none s d = refl
+
+-- on one more
+pub rule-more : (s : Shape) (d n : ℕ)
+    → lowOrHighFrom s d (suc n)
+    ≡ (not (nonNeg (lowAt s d (map lastIndex (highs s (suc d) n)))) || ltb 4096 (highAt s d (map lastIndex (highs s (suc d) n))) || lowOrHighFrom s (suc d) n)
+unfolding lowOrHighFrom
+rule-more s d n = refl
 
 -- the high of dimension d, and those of the dimensions outside it
 pub highs-next : (s : Shape) (d : ℕ) → d < s .dims → highs s d (s .dims - d) ≡ highAt s d (lastsFrom s (suc d)) ∷ highs s (suc d) (s .dims - suc d)

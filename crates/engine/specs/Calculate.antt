@@ -6,7 +6,7 @@
 --   readFrom, writtenTo, effect   what one that is not refused does
 use Prim.Native.Nat.{ℕ, _*_}
 use mathlib.Core.List.{List, [], _∷_, _++_, map}
-use mathlib.Core.Bool.{Bool, true, false, cond, not, _&&_, _||_}
+use mathlib.Core.Bool.{Bool, true, cond, not, _&&_, _||_}
 use lib.ListN.{length, take}
 use lib.Dec.{eqb, ltb}
 use Rattle.codec.specs.declared.operation.Calculation.{Calculation}

@@ -13,13 +13,14 @@ use lib.ListN.{length, getD, take}
 use lib.Dec.{leb, eqb}
 use lib.IntN.{ℤ, pos, negsuc}
 use borrow.Author.Tests.{ltb-false, le-ltb, eqb-true, eq-eqb, not-false}
+use Rattle.codec.specs.TestLaws.{never, never-true, or-false, and-false, both, and-right, and-both}
 use Rattle.codec.specs.declared.header.Kind.{Kind}
 use Rattle.codec.specs.declared.header.Kind.the-variants.{Load, Store}
 use Rattle.codec.specs.declared.operation.Calculation.{Calculation}
 use Rattle.engine.specs.Addresses.{address, inside}
 use Rattle.engine.specs.Registers.{isConfiguring, isOpen, isFinished, isLoad, openLoad, openStore, nextChunk}
 use Rattle.engine.specs.Calculate.{World, allInside, outside, refusalOf}
-use Rattle.engine.specs.CalculationLaws.{never, never-true, or-false, and-false, both, and-right, and-both, Passed as AllPassed, checked, not-refused}
+use Rattle.engine.specs.CalculationLaws.{Passed as AllPassed, checked, not-refused}
 use Rattle.engine.specs.Allowed.{Lies, AllLie, Source, Sink, CalculatesOn, Calculates}
 use Rattle.engine.specs.declared.check.Why.the-variants.{Nothing}
 use Rattle.engine.specs.declared.stream.Pattern.{Pattern}

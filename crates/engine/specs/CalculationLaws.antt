@@ -1,18 +1,17 @@
 -- The checks of a calculation that is not refused.
 --
---   never, never-true, or-false, and-false, both, and-left, and-right, and-both   flags
 --   Named, named                               the registers that a calculation names are among the 32
 --   Passed, passed, nothing, unrefused         the checks that did not apply, by name
 --   PassedIn, checked, not-refused             those of a calculation in a world: not refused exactly if it passes them
 use Prim.Native.Nat.{ℕ, _<_}
-use mathlib.Core.Path.{_≡_, refl, sym, ap}
+use mathlib.Core.Path.{_≡_, refl}
 use mathlib.Core.List.{[]}
-use mathlib.Core.Bool.{Bool, true, false, cond, not, _&&_, _||_}
+use mathlib.Core.Bool.{true, false, not, _&&_, _||_}
 use native.Mathlib.Omega.{arith}
 use lib.ListN.{length, take}
 use lib.Dec.{eqb, ltb}
-use borrow.Author.Tests.{leb-true}
-use Rattle.codec.specs.Operations.{isRegister, isSecond, actionCode, calculationInRange}
+use Rattle.codec.specs.Operations.{calculationInRange}
+use Rattle.codec.specs.RangeLaws.{calculation-range}
 use Rattle.codec.specs.declared.operation.Calculation.{Calculation}
 use Rattle.engine.specs.Checks.{firstOf}
 use Rattle.engine.specs.Registers.{isConfiguring, isFinished, openLoad, openStore, nextChunk, reg}
@@ -20,46 +19,6 @@ use Rattle.engine.specs.Calculate.{World, given, outside, checksOn, refu
 use Rattle.engine.specs.GoodLaws.{next, more}
 use Rattle.engine.specs.declared.check.Why.the-variants.{Nothing}
 use Rattle.engine.specs.declared.register.Register.{Register}
-
--- ---- flags
-
--- a flag that is clear is not set
-pub never : {X : Type 0} → false ≡ true → X
-never e = absurd (let z : _≡_ {A = ℕ} 0 1 = ap (λ t. cond t 1 0) e in omega arith)
-
--- nor the other way round
-pub never-true : {X : Type 0} → true ≡ false → X
-never-true e = never (sym e)
-
--- neither of two
-pub or-false : (a b : Bool) → (a || b) ≡ false → (a ≡ false) × (b ≡ false)
-or-false true b e = never-true e
-or-false false b e = (refl, e)
-
--- not both, but the first: not the second
-pub and-false : (a b : Bool) → (a && b) ≡ false → a ≡ true → b ≡ false
-and-false true b e p = e
-and-false false b e p = never p
-
--- both of two
-pub both : (a b : Bool) → (a && b) ≡ true → (a ≡ true) × (b ≡ true)
-both true b e = (refl, e)
-both false b e = never e
-
--- not the first: not both
-pub and-left : (a b : Bool) → a ≡ false → (a && b) ≡ false
-and-left a b e = rw e
-
--- not the second: not both
-pub and-right : (a b : Bool) → b ≡ false → (a && b) ≡ false
-and-right true b e = e
-and-right false b e = refl
-
--- each: both
-pub and-both : (a b : Bool) → a ≡ true → b ≡ true → (a && b) ≡ true
-and-both a b e f = rw (e, f)
-
--- ---- the checks
 
 -- the registers that a calculation names are among the 32
 pub record Named (c : Calculation) : Type 0 where
@@ -70,14 +29,8 @@ pub record Named (c : Calculation) : Type 0 where
 -- a calculation in range names registers
 pub named : (c : Calculation) → calculationInRange c ≡ true → Named c
 named c e =
-    let a = both (isRegister (c .destination) && isRegister (c .first)) (isSecond (actionCode (c .action)) (c .first) (c .second)) e in
-    let b = both (isRegister (c .destination)) (isRegister (c .first)) (a .0) in
-    let s = both (isRegister (c .second)) (not (eqb (actionCode (c .action)) 0) || eqb (c .second) (c .first)) (a .1) in
-    record {
-      first = omega (arith, leb-true (c .first) 31 (b .1));
-      second = omega (arith, leb-true (c .second) 31 (s .0));
-      destination = omega (arith, leb-true (c .destination) 31 (b .0));
-    }
+    let r = calculation-range c e in
+    record { first = omega (arith, r .1); second = omega (arith, r .2); destination = omega (arith, r .0) }
 
 -- the checks of a calculation that did not apply: on first source a, second source b, destination d, with n lanes of a and m of b
 pub record Passed (vl len n m : ℕ) (a b d : Register) : Type 0 where

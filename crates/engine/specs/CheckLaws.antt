@@ -1,15 +1,22 @@
 -- Laws of ordered checks.
 --
+--   first-of                 the first check, or else the others
 --   orElse, first-append     the first of two lists joined is that of the first list, or else of the second
 --   first-stops, first-goes  by whether the first list refuses
 use mathlib.Core.Path.{_≡_, refl, _∙_}
 use mathlib.Core.List.{List, [], _∷_, _++_}
 use mathlib.Core.Bool.{Bool, true, false, cond}
 use Rattle.codec.specs.declared.refusal.Refusal.{Refusal}
-use Rattle.engine.specs.Checks.{Check, firstOf}
+use Rattle.engine.specs.Checks.{Check, _if_, firstOf}
 use Rattle.engine.specs.declared.check.Why.{Why}
 use Rattle.engine.specs.declared.check.Why.the-variants.{Nothing, Because}
 
+-- the first check decides, or else the others
+pub first-of : (x : Refusal) (b : Bool) (cs : List Check) → firstOf (x if b ∷ cs) ≡ cond b (Because x) (firstOf cs)
+unfolding firstOf
+first-of x b cs = refl
+
+-- a refusal, or else the other
 abbrev pub orElse : Why → Why → Why
 orElse Nothing w = w
 orElse (Because x) w = Because x

@@ -11,7 +11,7 @@
 --   chunk-elements            the next chunk of a stream is the front of its elements that are left
 use Prim.Native.Nat.{ℕ, zero, suc, _+_, _-_, _≤_, _<_, min}
 use mathlib.Core.Path.{_≡_, refl, sym, _∙_, ap}
-use mathlib.Core.List.{List, [], _∷_, _++_, map, append-nil}
+use mathlib.Core.List.{List, [], _∷_, _++_, map, append-nil, map-append}
 use mathlib.Core.Logic.{_↔_}
 use mathlib.Core.Bool.{false}
 use native.Mathlib.Omega.{arith}
@@ -27,10 +27,6 @@ use Rattle.engine.specs.Chunks.{passes, groups, leftAfter, nextGroup, ch
 use Rattle.engine.specs.GroupLaws.{join, join-append, join-withElements, leftAfter-join, leftInGroup, left-some, left-most, nextGroup-front}
 use Rattle.engine.specs.Configure.{uncovered}
 use Rattle.engine.specs.declared.stream.Shape.{Shape}
-
-map-append : {A B : Type 0} (f : A → B) (l m : List A) → map f (l ++ m) ≡ map f l ++ map f m
-map-append f [] m = refl
-map-append f (x ∷ l) m = ap (λ r. f x ∷ r) (map-append f l m)
 
 span-join : {A B : Type 0} (f : A → List B) (g : ℕ → List A) (h : ℕ → List B) (k n : ℕ)
     → ((i : ℕ) → join (map f (g i)) ≡ h i) → join (map f (span g k n)) ≡ span h k n

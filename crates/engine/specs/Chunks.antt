@@ -5,9 +5,9 @@
 --   leftAfter, nextGroup      what is left of the groups after some elements
 --   chunk                     the next chunk
 --   differ, height, flag      the end flags
-use Prim.Native.Nat.{ℕ, zero, suc, _+_, _-_}
+use Prim.Native.Nat.{ℕ, zero, suc, _-_}
 use mathlib.Core.List.{List, [], _∷_, map}
-use mathlib.Core.Bool.{Bool, true, false, cond}
+use mathlib.Core.Bool.{Bool, cond}
 use lib.ListN.{length, getD, take, drop}
 use lib.Dec.{eqb, ltb, leb}
 use Rattle.codec.specs.declared.header.Coupling.{Coupling}

@@ -6,7 +6,7 @@
 --   split                         the first elements to come, and those to come after them
 --   next-front, next-lanes, next-within, next-some   the next chunk: the front of what is to come, at most the lanes, within the stream, not empty
 --   stays                         an open stream that moves on by nothing is as it was
---   IsStream, stream-moved        a stream that was ended
+--   IsStream, ended-stream, stream-moved        a stream that was ended
 --   open-some, none-shut, shut-finished, finished-exactly, finished-all   open where some are to come, finished where none are
 use Prim.Native.Nat.{ℕ, _+_, _-_, _/_, _≤_, _<_}
 use mathlib.Core.Path.{_≡_, refl, sym, _∙_, ap, subst}
@@ -20,6 +20,7 @@ use lib.Seq.{drop-drop}
 use lib.Pow.{pow-pos}
 use lib.Dec.{leb}
 use borrow.Author.Tests.{leb-true, lt-leb}
+use Rattle.codec.specs.TestLaws.{never}
 use Rattle.engine.specs.Loops.{sizeAt, elements}
 use Rattle.engine.specs.Chunks.{groupsOf, chunk}
 use Rattle.engine.specs.ChunkLaws.{Covered, covered, groups-join, chunk-lanes, chunk-some, chunk-elements}
@@ -30,9 +31,6 @@ use Rattle.engine.specs.GoodLaws.{width-most}
 use Rattle.engine.specs.declared.register.State.{State}
 use Rattle.engine.specs.declared.register.State.the-variants.{Plain, Configuring, Open, Finished}
 use Rattle.engine.specs.declared.register.Register.{Register}
-
-never : {X : Type 0} → false ≡ true → X
-never e = absurd (let z : _≡_ {A = ℕ} 0 1 = ap (λ t. cond t 1 0) e in omega arith)
 
 -- a vector of at least 8 bytes has a lane of any width
 pub lanes-some : (vl width : ℕ) → 8 ≤ vl → IsWidth width → 0 < vl / width
@@ -112,14 +110,15 @@ next-some vl r h g e =
 abbrev pub IsStream : Register → Type 0
 IsStream r = (isOpen (r .state) || isFinished (r .state)) ≡ true
 
+-- finished or open, by whether none is left
+pub ended-stream : (b : Bool) → (isOpen (cond b Finished Open) || isFinished (cond b Finished Open)) ≡ true
+ended-stream true = refl
+ended-stream false = refl
+
 -- a register that moved is one
 pub stream-moved : (n : ℕ) (r : Register) → IsStream (movedBy n r)
 unfolding movedBy
-stream-moved n r = either (leb (length (elements (shapeOf r))) (r .moved + n))
-  where
-    either : (b : Bool) → (isOpen (cond b Finished Open) || isFinished (cond b Finished Open)) ≡ true
-    either true = refl
-    either false = refl
+stream-moved n r = ended-stream (leb (length (elements (shapeOf r))) (r .moved + n))
 
 -- of an open one some are to come
 pub open-some : (vl : ℕ) (r : Register) → Good vl r → isOpen (r .state) ≡ true → 0 < length (toCome r)

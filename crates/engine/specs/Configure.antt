@@ -4,10 +4,10 @@
 --   opened .. ended                 what each that is not refused makes of its register
 --   registerOf, checksFor, applied  of any of them
 --   configured                      on the machine
-use Prim.Native.Nat.{ℕ, zero, suc, _+_, _-_}
+use Prim.Native.Nat.{ℕ, _+_, _-_}
 use mathlib.Core.List.{List, [], _∷_}
-use mathlib.Core.Bool.{Bool, true, false, cond, not, _&&_, _||_}
-use lib.ListN.{set, replicate}
+use mathlib.Core.Bool.{Bool, false, not, _||_}
+use lib.ListN.{set}
 use lib.Dec.{eqb, ltb, leb}
 use Rattle.codec.specs.Headers.{bytesOf}
 use Rattle.codec.specs.declared.amounts.Bytes.{Bytes}
@@ -27,7 +27,7 @@ use Rattle.engine.specs.declared.stream.Shape.{Shape}
 use Rattle.engine.specs.declared.stream.Pattern.{Pattern}
 use Rattle.engine.specs.declared.check.Why.{Why}
 use Rattle.engine.specs.declared.check.Why.the-variants.{Nothing, Because}
-use Rattle.engine.specs.declared.register.State.the-variants.{Plain, Configuring, Open, Finished}
+use Rattle.engine.specs.declared.register.State.the-variants.{Configuring}
 use Rattle.engine.specs.declared.register.Register.{Register}
 use Rattle.engine.specs.declared.register.Machine.{Machine}
 

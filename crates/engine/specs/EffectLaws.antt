@@ -3,7 +3,7 @@
 --   changed, effect-reg, effect-length         each register after it
 --   read-open, read-shut, written-open, written-shut   a source and a destination after it
 --   memory-length                              memory keeps its length
---   given-fits                                 the lanes that a source gives fit the vector length
+--   length-lanes, given-fits                   so many lanes read; the lanes that a source gives fit the vector length
 --   counts-same, results-length                both sources give equally many, and the result has as many
 --   open-store, room                           a store that is the destination has room for the result
 use Prim.Native.Nat.{ℕ, zero, suc, _+_, _*_, _/_, _≤_, _<_}
@@ -16,6 +16,7 @@ use lib.ListN.{length, getD, set, length-set, length-map}
 use lib.Seq.{getD-set-same, getD-set-other, sets, length-sets}
 use lib.Dec.{eqb, ltb}
 use borrow.Author.Tests.{eqb-true, eqb-false, ltb-false, not-false}
+use Rattle.codec.specs.TestLaws.{or-false, and-false}
 use Rattle.codec.specs.declared.operation.Calculation.{Calculation}
 use Rattle.engine.specs.Memory.{fetch, spot, littleEndian, stored, lanesFrom, contents, holding}
 use Rattle.engine.specs.Lanes.{lane, lanewise}
@@ -23,7 +24,7 @@ use Rattle.engine.specs.Registers.{isOpen, isLoad, openLoad, openStore, 
 use Rattle.engine.specs.Calculate.{World, given, results, refusalOf, readFrom, writtenTo, memoryAfter, effect}
 use Rattle.engine.specs.Good.{Good}
 use Rattle.engine.specs.ComeLaws.{next-lanes}
-use Rattle.engine.specs.CalculationLaws.{or-false, and-false, checked}
+use Rattle.engine.specs.CalculationLaws.{checked}
 use Rattle.engine.specs.declared.check.Why.the-variants.{Nothing}
 use Rattle.engine.specs.declared.stream.Pattern.{Pattern}
 use Rattle.engine.specs.declared.register.Register.{Register}
@@ -122,7 +123,8 @@ memory-length vl c w = go (isOpen (d .state))
 
 -- ---- lengths
 
-length-lanes : (bytes : List ℕ) (width k n : ℕ) → length (lanesFrom bytes width k n) ≡ n
+-- lanes read are as many as were asked for
+pub length-lanes : (bytes : List ℕ) (width k n : ℕ) → length (lanesFrom bytes width k n) ≡ n
 unfolding lanesFrom
 length-lanes bytes width k zero = refl
 length-lanes bytes width k (suc n) = ap suc (length-lanes bytes width (k + width) n)

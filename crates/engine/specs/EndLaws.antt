@@ -13,6 +13,7 @@ use mathlib.Core.List.{List}
 use mathlib.Core.Bool.{Bool, true, false, cond, _&&_, _||_}
 use native.Mathlib.Omega.{arith}
 use lib.ListN.{length}
+use Rattle.codec.specs.TestLaws.{both, and-both}
 use Rattle.codec.specs.declared.refusal.Refusal.{Refusal}
 use Rattle.engine.specs.Registers.{isOpen, isFinished, isLoad, toCome, reg}
 use Rattle.engine.specs.Calculate.{World}
@@ -20,7 +21,6 @@ use Rattle.engine.specs.Run.{Progress, begun, unlessRefused, pass, count
 use Rattle.engine.specs.Sheets.{names, isLoopRegister}
 use Rattle.engine.specs.Good.{AllGood}
 use Rattle.engine.specs.ComeLaws.{IsStream, open-some, none-shut, shut-finished}
-use Rattle.engine.specs.CalculationLaws.{both, and-both}
 use Rattle.engine.specs.HistoryLaws.{AllNamed, after-good, kind-kept, stream-kept, fewer}
 use Rattle.engine.specs.RunLaws.{not-both, pass-whole, repeat-ran, ran-good}
 use Rattle.engine.specs.declared.register.Register.{Register}

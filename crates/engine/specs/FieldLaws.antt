@@ -1,44 +1,32 @@
 -- Numbers read one by one, in the plain words of Promise 1: what stands in a sheet of bytes is what is read there.
 --
---   stands-split                            bytes that stand in a sheet, and what is before and behind them
 --   number-there, there-number, no-number   a number, read and standing
 --   holds, copy-plain, holds-plain          the range of a number, as a test
 --   reads, Through                          numbers read one by one, each in its range; that all are there
 --   reads-fault, reads-through, reads-either, reads-gives   what they give: the refusal of the first fault, or what follows them
-use Prim.Native.Nat.{ℕ, _+_, _-_}
+use Prim.Native.Nat.{ℕ}
 use mathlib.Core.Path.{_≡_, refl, sym, _∙_, ap}
 use mathlib.Core.Logic.{_⊎_, inl, inr, _↔_}
-use mathlib.Core.List.{List, [], _∷_, _++_}
+use mathlib.Core.List.{List, [], _∷_}
 use mathlib.Core.Bool.{Bool, true, false, not, _&&_, _||_}
 use native.Mathlib.Omega.{arith}
-use lib.ListN.{length, getD, take, drop, take-append-drop, length-append}
-use lib.Seq.{length-take-le, drop-drop}
+use lib.ListN.{getD, take, drop}
 use lib.Dec.{leb, eqb}
 use lib.IntN.{natAbs}
 use borrow.Author.Tests.{eqb-true, eq-eqb}
+use Rattle.codec.specs.TestLaws.{never}
 use Rattle.codec.specs.Refusals.{is-numbered}
 use Rattle.codec.specs.Numbers.{numberAt, signedOf}
-use Rattle.codec.specs.NumberLaws.{areBytes, Stands, number-below, number-written, number-read}
+use Rattle.codec.specs.NumberLaws.{areBytes, number-below, number-written, number-read}
+use Rattle.codec.specs.StandingLaws.{stands-split}
 use Rattle.codec.specs.Operations.{field, isRegister, isReach, isSecond}
 use Rattle.codec.specs.declared.number.Cursor.{Cursor}
 use Rattle.codec.specs.declared.number.Number.{Number}
 use Rattle.codec.specs.declared.number.Number.the-variants.{Value, NoNumber}
 use Rattle.codec.specs.declared.refusal.Refusal.{Refusal}
 use Rattle.codec.specs.declared.refusal.Refusal.the-variants.{BadNumber, OutOfRange}
-use Rattle.engine.specs.CalculationLaws.{never}
 use Rattle.engine.specs.AllowedLaws.{fails, leb-plain, and-plain}
 use Rattle.engine.specs.Promise1.{NumberAt, NoNumberAt, Range, Holds, Fault, AtFault}
-
--- ---- what stands in a sheet
-
--- bytes that stand in a sheet, between what is before and what is behind them
-pub stands-split : {s l : List ℕ} {at to : ℕ} → Stands s at l to → (s ≡ take at s ++ (l ++ drop to s)) × (length (take at s) ≡ at) × (length (take at s ++ l) ≡ to)
-stands-split {s} {l} {at} {to} h =
-    let e : at + (to - at) ≡ to = omega (arith, h .behind) in
-    let back : drop to s ≡ drop (to - at) (drop at s) = sym (drop-drop (to - at) at s ∙ ap (λ k. drop k s) e) in
-    let all : take at s ++ (l ++ drop to s) ≡ s = rw (← h .bytes, back, take-append-drop, take-append-drop) in
-    let front : length (take at s) ≡ at = length-take-le at s (omega (arith, h .behind, h .within)) in
-    (sym all, front, omega (arith, length-append (take at s) l, front, h .behind))
 
 -- ---- numbers
 

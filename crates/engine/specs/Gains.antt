@@ -1,6 +1,7 @@
 -- What modifiers add and what they take, as natural numbers.
 --
 --   gainOf, gain           what one modifier, and what all of them, move a parameter by, of those that add or of those that subtract
+--   gainOf-on, gain-empty, gain-more, gain-append   of one modifier; of none, of one more, of two parts
 --   added-gain             what modifiers add in all is what adding ones add less what subtracting ones take
 --   size-nat               the size of a dimension: size + added - taken, cut off at 0
 --   size-exact             the same in exact integers
@@ -8,7 +9,7 @@
 --   gain-mono, gain-same   larger indices move by more, the same indices by the same
 use Prim.Native.Nat.{ℕ, zero, suc, _+_, _-_, _*_, _≤_, _<_}
 use mathlib.Core.Path.{_≡_, refl, sym, _∙_, ap}
-use mathlib.Core.List.{List, [], _∷_}
+use mathlib.Core.List.{List, [], _∷_, _++_}
 use mathlib.Core.Bool.{Bool, true, false, cond, _&&_}
 use native.Mathlib.Omega.{arith}
 use native.Mathlib.Nat.{mul-le-mul-right}
@@ -34,6 +35,32 @@ gainOf q b d outer m =
 unfoldable pub gain : Parameter → Behaviour → ℕ → List ℕ → List Modifier → ℕ
 gain q b d outer [] = 0
 gain q b d outer (m ∷ ms) = gainOf q b d outer m + gain q b d outer ms
+
+-- ---- what modifiers do, one by one
+
+-- one that moves the parameter
+pub gainOf-on : (q : Parameter) (b : Behaviour) (d : ℕ) (outer : List ℕ) (m : Modifier) → sameParameter (m .parameter) q ≡ true
+    → gainOf q b d outer m ≡ cond (eqb (m .target) d) (cond (sameBehaviour (m .behaviour) b) (ownerIndex m d outer * m .displacement) 0) 0
+unfolding gainOf
+gainOf-on q b d outer m e = rw e
+
+-- none
+pub gain-empty : (q : Parameter) (b : Behaviour) (d : ℕ) (outer : List ℕ) → gain q b d outer [] ≡ 0
+unfolding gain
+gain-empty q b d outer = refl
+
+-- one, then others
+pub gain-more : (q : Parameter) (b : Behaviour) (d : ℕ) (outer : List ℕ) (m : Modifier) (ms : List Modifier)
+    → gain q b d outer (m ∷ ms) ≡ gainOf q b d outer m + gain q b d outer ms
+unfolding gain
+gain-more q b d outer m ms = refl
+
+-- in two parts
+pub gain-append : (q : Parameter) (b : Behaviour) (d : ℕ) (outer : List ℕ) (xs ys : List Modifier)
+    → gain q b d outer (xs ++ ys) ≡ gain q b d outer xs + gain q b d outer ys
+unfolding gain
+gain-append q b d outer [] ys = omega arith
+gain-append q b d outer (x ∷ xs) ys = omega (arith, gain-append q b d outer xs ys)
 
 -- ---- differences of natural numbers
 

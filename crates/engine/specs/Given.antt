@@ -4,7 +4,7 @@
 --   Given, givenBy, givenFor   what the operations of a sheet have given for a register
 --   Flagged                 when a flag is set
 --   AtMoment                a stream at a moment: what has moved, what is to come, what both questions are told
-use Prim.Native.Nat.{ℕ, _+_, _-_, _≤_}
+use Prim.Native.Nat.{ℕ, _-_, _≤_}
 use mathlib.Core.Path.{_≡_}
 use mathlib.Core.Logic.{_↔_}
 use mathlib.Core.List.{List, [], _∷_, _++_, map}

@@ -4,11 +4,11 @@
 --   Accepted                                a shape that end accepts
 --   IsWidth                                 1, 2, 4 or 8
 --   Standing, Good                          a register of a run
-use Prim.Native.Nat.{ℕ, _+_, _*_, _^_, _≤_, _<_}
+use Prim.Native.Nat.{ℕ, _*_, _^_, _≤_, _<_}
 use mathlib.Core.Path.{_≡_}
-use mathlib.Core.List.{List, []}
-use mathlib.Core.Bool.{Bool, true, false}
-use lib.ListN.{length, getD, replicate}
+use mathlib.Core.List.{[]}
+use mathlib.Core.Bool.{true, false}
+use lib.ListN.{length, getD}
 use lib.IntN.{natAbs}
 use Rattle.engine.specs.Loops.{elements}
 use Rattle.engine.specs.Chunks.{height}

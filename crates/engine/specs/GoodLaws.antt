@@ -2,7 +2,8 @@
 --
 --   next, more, passed, clear          a list of checks that gives none
 --   First, first-because, because-first   a list of checks that gives a refusal
---   fresh-good, fresh-machine-good     what a sheet starts with
+--   all-same, fresh-good, fresh-machine-good   what a sheet starts with
+--   after-configuring                  an ended stream is not being configured
 --   dimension-passed, modifier-passed, end-accepted, end-configuring, target-most   what an operation that is not refused finds
 --   opened-good, dimensioned-good, modified-good, moved-good, ended-good, applied-good
 --                                      a good register after an operation
@@ -13,17 +14,20 @@ use Prim.Native.Nat.{ℕ, zero, suc, _+_, _^_, _≤_, _<_}
 use mathlib.Core.Path.{_≡_, refl, sym, _∙_, ap, subst}
 use mathlib.Core.Logic.{_≢_, ⊎-elim}
 use mathlib.Core.List.{List, [], _∷_, _++_, List·Memᴰ, List·Memᴰ·head, List·Memᴰ·tail, List·Memᴰ·cases-cons, List·Memᴰ·not-nil}
-use mathlib.Core.Bool.{Bool, true, false, cond, _&&_, _||_}
+use mathlib.Core.Bool.{Bool, true, false, cond}
 use native.Mathlib.Omega.{arith}
-use lib.ListN.{length, getD, set, replicate, length-set, length-append, length-take, getD-replicate}
+use lib.ListN.{length, getD, set, replicate, length-set, getD-replicate}
 use lib.Seq.{getD-set-same, getD-set-other, set-getD}
 use lib.Dec.{leb, ltb, eqb}
 use lib.IntN.{natAbs}
 use lib.Signed.{nonNeg}
 use lib.Pow.{pow-mono, pow-pos}
 use borrow.Author.Tests.{leb-true, leb-false, ltb-true, ltb-false, eqb-false, not-false}
-use Rattle.codec.specs.Headers.{bytesOf, headerInRange, couplingInRange}
-use Rattle.codec.specs.Operations.{isRegister, isBase, isReach, isSize, isDisplacement, isCount, upTo, baseInRange, dimensionInRange, modifierInRange, operationInRange}
+use Rattle.codec.specs.TestLaws.{never, both, or-false}
+use Rattle.codec.specs.HeaderLaws.{header-range}
+use Rattle.codec.specs.RangeLaws.{dimension-range, modifier-range, run-range, open-range}
+use Rattle.codec.specs.Headers.{bytesOf}
+use Rattle.codec.specs.Operations.{isBase, dimensionInRange, modifierInRange, operationInRange}
 use Rattle.codec.specs.declared.amounts.Bytes.{Bytes}
 use Rattle.codec.specs.declared.header.Header.{Header}
 use Rattle.codec.specs.declared.header.Width.{Width}
@@ -40,10 +44,11 @@ use Rattle.engine.specs.Chunks.{height}
 use Rattle.engine.specs.Rules.{highsOf, product}
 use Rattle.engine.specs.Addresses.{noBytes, noElements}
 use Rattle.engine.specs.Checks.{Check, _if_, firstOf}
-use Rattle.engine.specs.Registers.{isConfiguring, isOpen, isFinished, noModifier, noShape, noPattern, fresh, noRegister, shapeOf, indexOf, movedTo, movedBy, freshMachine, reg, put}
+use Rattle.engine.specs.Registers.{isConfiguring, isOpen, isFinished, noModifier, noShape, noPattern, fresh, noRegister, shapeOf, movedTo, movedBy, freshMachine, reg, put}
 use Rattle.engine.specs.Configure.{dimensionChecks, modifierChecks, uncovered, endChecks, opened, patterned, dimensioned, owned, modified, ended, registerOf, checksFor, applied, unlessBecause, whyNot, configured}
 use Rattle.engine.specs.Good.{RangedModifier, Ranged, RangedPattern, Accepted, IsWidth, Standing, Good, AllGood}
 use Rattle.engine.specs.Places.{Ready}
+use Rattle.engine.specs.IndexLaws.{index-length}
 use Rattle.engine.specs.declared.stream.Modifier.{Modifier}
 use Rattle.engine.specs.declared.stream.Shape.{Shape}
 use Rattle.engine.specs.declared.stream.Pattern.{Pattern}
@@ -53,19 +58,6 @@ use Rattle.engine.specs.declared.register.State.{State}
 use Rattle.engine.specs.declared.register.State.the-variants.{Plain, Configuring, Open, Finished}
 use Rattle.engine.specs.declared.register.Register.{Register}
 use Rattle.engine.specs.declared.register.Machine.{Machine}
-
--- ---- flags
-
-never : {A : Type 0} → false ≡ true → A
-never e = absurd (let z : _≡_ {A = ℕ} 0 1 = ap (λ t. cond t 1 0) e in omega arith)
-
-both : (a b : Bool) → (a && b) ≡ true → (a ≡ true) × (b ≡ true)
-both true b e = (refl, e)
-both false b e = never e
-
-neither : (a b : Bool) → (a || b) ≡ false → (a ≡ false) × (b ≡ false)
-neither true b e = never (sym e)
-neither false b e = (refl, e)
 
 -- ---- checks
 
@@ -126,7 +118,8 @@ because-first cs x f = ap firstOf (f .split) ∙ skip (f .before) x (f .rest) (f
 
 -- ---- what a sheet starts with
 
-all-same : {A : Type 0} (n d : ℕ) (a : A) → getD (replicate n a) d a ≡ a
+-- each place of a list of one value has it
+pub all-same : {A : Type 0} (n d : ℕ) (a : A) → getD (replicate n a) d a ≡ a
 all-same zero d a = refl
 all-same (suc n) zero a = refl
 all-same (suc n) (suc d) a = all-same n d a
@@ -189,7 +182,7 @@ opened-good vl h b e = record {
   width = is-width (h .width);
   lanes = refl;
   valid = omega arith;
-  pattern = bare (h .coupling) b (leb-true (natAbs (b .0)) 1048576 (both (nonNeg (b .0)) (isBase (natAbs (b .0))) (both (headerInRange h) (baseInRange b) e .1) .1));
+  pattern = bare (h .coupling) b (leb-true (natAbs (b .0)) 1048576 (both (nonNeg (b .0)) (isBase (natAbs (b .0))) (open-range h b e .1) .1));
   indices = refl;
   unmoved = λ e. refl;
   opened = λ e. never e;
@@ -228,23 +221,21 @@ wider n m h = record { below = h .below; owned = omega (arith, h .owned); displa
 
 dimensioned-ranged : (d : Dimension) (p : Pattern) → RangedPattern p → dimensionInRange d ≡ true → p .shape .dims < 7 → RangedPattern (dimensioned d p)
 dimensioned-ranged d p h e q =
-    let a = both (isRegister (d .register) && isReach (d .offset .0) && isSize (d .size)) (isReach (d .stride .0)) e in
-    let b = both (isRegister (d .register) && isReach (d .offset .0)) (isSize (d .size)) (a .0) in
-    let o = both (isRegister (d .register)) (isReach (d .offset .0)) (b .0) in
+    let r = dimension-range d e in
     record {
       shape = record {
         dims = omega arith;
         mods = h .shape .mods;
         sizes = length-set (p .shape .sizes) (p .shape .dims) (d .size) ∙ h .shape .sizes;
         modifiers = h .shape .modifiers;
-        size = λ j. set-each (λ x. x ≤ 4096) (p .shape .sizes) (p .shape .dims) j (d .size) 0 (leb-true (d .size) 4096 (b .1)) (h .shape .size j);
+        size = λ j. set-each (λ x. x ≤ 4096) (p .shape .sizes) (p .shape .dims) j (d .size) 0 (r .2) (h .shape .size j);
         modifier = λ k t. wider (p .shape .dims) (getD (p .shape .modifiers) k noModifier) (h .shape .modifier k t);
       };
       base = h .base;
       offsets = length-set (p .offsets) (p .shape .dims) (d .offset) ∙ h .offsets;
       strides = length-set (p .strides) (p .shape .dims) (d .stride) ∙ h .strides;
-      offset = λ j. set-each (λ x. natAbs (x .0) ≤ 1048576) (p .offsets) (p .shape .dims) j (d .offset) noBytes (leb-true (natAbs (d .offset .0)) 1048576 (o .1)) (h .offset j);
-      stride = λ j. set-each (λ x. natAbs (x .0) ≤ 1048576) (p .strides) (p .shape .dims) j (d .stride) noElements (leb-true (natAbs (d .stride .0)) 1048576 (a .1)) (h .stride j);
+      offset = λ j. set-each (λ x. natAbs (x .0) ≤ 1048576) (p .offsets) (p .shape .dims) j (d .offset) noBytes (leb-true (natAbs (d .offset .0)) 1048576 (r .1)) (h .offset j);
+      stride = λ j. set-each (λ x. natAbs (x .0) ≤ 1048576) (p .strides) (p .shape .dims) j (d .stride) noElements (leb-true (natAbs (d .stride .0)) 1048576 (r .3)) (h .stride j);
     }
 
 -- what a dimension that is not refused finds
@@ -263,9 +254,7 @@ dimensioned-good vl d r g e w =
     patterned-good vl r (dimensioned d (r .pattern)) g (a .0) (dimensioned-ranged d (r .pattern) (g .pattern) e (a .1))
 
 owned-ranged : (m : given.Modifier) (s : Shape) → modifierInRange m ≡ true → m .target + 1 < s .dims → RangedModifier (s .dims) (owned m s)
-owned-ranged m s e q =
-    let a = both (isRegister (m .register) && upTo 6 (m .target)) (isDisplacement (m .displacement)) e in
-    record { below = omega arith; owned = omega arith; displaced = leb-true (m .displacement) 1048576 (a .1) }
+owned-ranged m s e q = record { below = omega arith; owned = omega arith; displaced = modifier-range m e .2 }
 
 -- one modifier more, behind those that were given
 one-more : (n dims : ℕ) (l : List Modifier) (m : Modifier) → n < length l → RangedModifier dims m
@@ -299,9 +288,7 @@ modified-ranged m p h e q t = record {
 -- a modifier's target field
 pub target-most : (m : given.Modifier) → operationInRange (op.Modifier m) ≡ true → m .target < 7
 unfolding operationInRange
-target-most m e =
-    let a = both (isRegister (m .register) && upTo 6 (m .target)) (isDisplacement (m .displacement)) e in
-    omega (arith, leb-true (m .target) 6 (both (isRegister (m .register)) (upTo 6 (m .target)) (a .0) .1))
+target-most m e = let r = modifier-range m e in omega (arith, r .1)
 
 -- what a modifier that is not refused finds
 pub modifier-passed : (target : ℕ) (r : Register) → firstOf (modifierChecks target r) ≡ Nothing
@@ -320,10 +307,8 @@ modified-good vl m r g e w =
     let a = modifier-passed (m .target) r w in
     patterned-good vl r (modified m (r .pattern)) g (a .0) (modified-ranged m (r .pattern) (g .pattern) e (a .1) (a .2))
 
-seven : (v : List ℕ) → length (indexOf v) ≡ 7
-seven v = omega (arith, length-take 7 (v ++ replicate 7 0), length-append v (replicate 7 0))
-
-after-configuring : (b : Bool) → isConfiguring (cond b Finished Open) ≡ false
+-- an ended stream is no longer being configured
+pub after-configuring : (b : Bool) → isConfiguring (cond b Finished Open) ≡ false
 after-configuring true = refl
 after-configuring false = refl
 
@@ -345,7 +330,7 @@ moved-good vl r g a n h =
       lanes = g .lanes;
       valid = g .valid;
       pattern = g .pattern;
-      indices = seven (getD (elements (shapeOf r)) n []);
+      indices = index-length (getD (elements (shapeOf r)) n []);
       unmoved = λ e. never (sym (after-configuring (leb all n)) ∙ e);
       opened = λ e. (stands, leb-false all n (after-open (leb all n) e));
       finished = λ e. let q : all ≤ n = leb-true all n (after-finished (leb all n) e) in (stands, omega arith);
@@ -359,7 +344,7 @@ end-accepted r h w =
     let b = next _ _ _ (a .1) in
     let c = next _ _ _ (b .1) in
     let d = next _ _ _ (c .1) in
-    let n = neither (eqb (s .dims) 0) (uncovered s (s .coupling)) (b .0) in
+    let n = or-false (eqb (s .dims) 0) (uncovered s (s .coupling)) (b .0) in
     record {
       ranged = h;
       some = some (s .dims) (eqb-false (s .dims) 0 (n .0));
@@ -396,16 +381,11 @@ applied-good vl (op.Run i n) r g e w = g
 -- an operation in range names one of the 32 registers
 pub in-machine : (o : Operation) → operationInRange o ≡ true → registerOf o < 32
 unfolding operationInRange
-in-machine (op.Open h b) e = omega (arith, leb-true (h .register) 31 (both (isRegister (h .register)) (couplingInRange (h .coupling)) (both (headerInRange h) (baseInRange b) e .0) .0))
-in-machine (op.Dimension d) e =
-    let a = both (isRegister (d .register) && isReach (d .offset .0) && isSize (d .size)) (isReach (d .stride .0)) e in
-    let b = both (isRegister (d .register) && isReach (d .offset .0)) (isSize (d .size)) (a .0) in
-    omega (arith, leb-true (d .register) 31 (both (isRegister (d .register)) (isReach (d .offset .0)) (b .0) .0))
-in-machine (op.Modifier m) e =
-    let a = both (isRegister (m .register) && upTo 6 (m .target)) (isDisplacement (m .displacement)) e in
-    omega (arith, leb-true (m .register) 31 (both (isRegister (m .register)) (upTo 6 (m .target)) (a .0) .0))
+in-machine (op.Open h b) e = let r = header-range h (open-range h b e .0) in omega (arith, r .0)
+in-machine (op.Dimension d) e = let r = dimension-range d e in omega (arith, r .0)
+in-machine (op.Modifier m) e = let r = modifier-range m e in omega (arith, r .0)
 in-machine (op.End i) e = omega (arith, leb-true i 31 e)
-in-machine (op.Run i n) e = omega (arith, leb-true i 31 (both (isRegister i) (isCount n) e .0))
+in-machine (op.Run i n) e = let r = run-range i n e in omega (arith, r .0)
 
 -- a register put back is found there
 pub put-same : (m : Machine) (i : ℕ) (r : Register) → i < length (m .registers) → reg (put m i r) i ≡ r

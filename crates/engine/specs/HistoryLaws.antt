@@ -15,12 +15,13 @@ use mathlib.Core.Bool.{Bool, true, false, _||_}
 use native.Mathlib.Omega.{arith}
 use lib.ListN.{length, take, length-append}
 use lib.Dec.{eqb}
+use Rattle.codec.specs.TestLaws.{never}
 use Rattle.engine.specs.Registers.{openLoad, toCome, reg}
 use Rattle.engine.specs.Calculate.{World, refusalOf, effect}
 use Rattle.engine.specs.Sheets.{names}
 use Rattle.engine.specs.Good.{Good, AllGood}
 use Rattle.engine.specs.ComeLaws.{IsStream}
-use Rattle.engine.specs.CalculationLaws.{never, Named}
+use Rattle.engine.specs.CalculationLaws.{Named}
 use Rattle.engine.specs.EffectLaws.{effect-length}
 use Rattle.engine.specs.EffectGood.{effect-good}
 use Rattle.engine.specs.StreamLaws.{movedIn, once, pattern-stays, kind-stays, width-stays, stream-stays, moved-counts, read-some, unnamed}

@@ -5,22 +5,21 @@
 --   walk-start, walk-next    where the search finds the first element, and the next one
 --   index-getD, index-under, element-under, element-small  the indices themselves, and that they are under the highs
 --   size-index, address-index  sizes and addresses at seven indices are those of the element
-use Prim.Native.Nat.{ℕ, zero, suc, _+_, _-_, _≤_, _<_}
+use Prim.Native.Nat.{ℕ, zero, suc, _-_, _≤_, _<_}
 use mathlib.Core.Path.{_≡_, refl, sym, _∙_, ap, ap₂, subst}
 use mathlib.Core.List.{List, [], _∷_, _++_, map}
 use native.Mathlib.Omega.{arith}
-use lib.ListN.{length, getD, take, drop, replicate, length-map, length-append, length-take}
+use lib.ListN.{length, getD, drop, replicate, length-append, length-take}
 use lib.Seq.{drop-append-le}
-use lib.IntN.{ℤ, pos, _+ℤ_}
-use Rattle.codec.specs.declared.operation.Parameter.{Parameter}
+use lib.IntN.{_+ℤ_}
 use Rattle.codec.specs.declared.operation.Parameter.the-variants.{Offset, Stride}
-use Rattle.engine.specs.Loops.{modifiersOf, added, sizeAt, loops, elements}
+use Rattle.engine.specs.Loops.{modifiersOf, sizeAt, loops, elements}
 use Rattle.engine.specs.Addresses.{noBytes, noElements, inBytes, offsetAt, strideAt, addressUpTo, address}
 use Rattle.engine.specs.Registers.{indexOf}
 use Rattle.engine.specs.BoundLaws.{Under, at-under, under-small}
 use Rattle.engine.specs.Good.{Accepted}
 use Rattle.engine.specs.Walk.{at, after, Element}
-use Rattle.engine.specs.WalkLaws.{getD-pad, added-pad, size-pad, getD-map, index-pad, standing, start, loops-padded}
+use Rattle.engine.specs.WalkLaws.{getD-pad, added-pad, size-pad, index-pad, standing, start, loops-padded}
 use Rattle.engine.specs.declared.stream.Shape.{Shape}
 use Rattle.engine.specs.declared.stream.Pattern.{Pattern}
 

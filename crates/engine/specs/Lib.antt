@@ -70,6 +70,7 @@ pub mod CalculatesLaws
 pub mod FieldLaws
 pub mod ReadingLaws
 pub mod StandLaws
+pub mod GivingLaws
 pub mod Table
 pub mod Outlines
 pub mod OutlineLaws

@@ -4,7 +4,7 @@
 --   end-told, flag-told              what both questions are told of a stream
 --   inside-most, inside-stream, inside-finished   how many elements have moved; open or finished; finished exactly if all have moved
 --   inside-moment                    a stream, some of whose elements have moved, at that moment
-use Prim.Native.Nat.{ℕ, zero, suc, _+_, _-_, _≤_, _<_}
+use Prim.Native.Nat.{ℕ, zero, suc, _-_, _≤_, _<_}
 use mathlib.Core.Path.{_≡_, refl, sym, _∙_, ap, subst}
 use mathlib.Core.Logic.{_⊎_, inl, inr, ⊎-elim, _↔_}
 use mathlib.Core.List.{List, [], _++_, append-nil}
@@ -13,18 +13,17 @@ use native.Mathlib.Omega.{arith}
 use lib.ListN.{length, getD, drop, length-append, length-drop, drop-of-length-le}
 use lib.Dec.{leb}
 use borrow.Author.Tests.{leb-true, le-leb, le-ltb, ne-eqb}
+use Rattle.codec.specs.TestLaws.{never}
 use Rattle.engine.specs.Loops.{elements}
 use Rattle.engine.specs.Chunks.{height, flag}
 use Rattle.engine.specs.FlagLaws.{flag-all, flag-set, flag-clear}
-use Rattle.engine.specs.Checks.{firstOf}
 use Rattle.engine.specs.Registers.{isOpen, isFinished, shapeOf, reg}
 use Rattle.engine.specs.Questions.{yesOrNo, unless, askFlag, askEnd}
 use Rattle.engine.specs.GoodLaws.{more}
-use Rattle.engine.specs.ComeLaws.{IsStream}
-use Rattle.engine.specs.CalculationLaws.{never}
+use Rattle.engine.specs.CalculationLaws.{nothing}
+use Rattle.engine.specs.ComeLaws.{IsStream, ended-stream}
 use Rattle.engine.specs.Given.{Stream, patternOf, Flagged, last, differs, AtMoment}
 use Rattle.engine.specs.GivenLaws.{Bears, elementsOf, Inside}
-use Rattle.engine.specs.declared.check.Why.the-variants.{Nothing}
 use Rattle.engine.specs.declared.check.Told.{Told}
 use Rattle.engine.specs.declared.check.Told.the-variants.{Yes, No}
 use Rattle.engine.specs.declared.stream.Shape.{Shape}
@@ -62,11 +61,6 @@ told : (b : Bool) (a : Told) (P : Type 0) → a ≡ yesOrNo b → (b ≡ true) �
 told true a P e f = ((λ q. f .0 refl, λ p. e), (λ q. absurd (let z : _≡_ {A = ℕ} 0 1 = cc in omega arith), λ n. absurd (n (f .0 refl))))
 told false a P e f = ((λ q. absurd (let z : _≡_ {A = ℕ} 0 1 = cc in omega arith), λ p. never (f .1 p)), (λ q p. never (f .1 p), λ n. e))
 
--- no check gives no refusal
-nothing : firstOf [] ≡ Nothing
-unfolding firstOf
-nothing = refl
-
 module _ (m : Machine) (i : ℕ) (h : i < 32) (s : IsStream (reg m i)) where
   -- the question for the end of a stream is told whether it is finished
   pub end-told : askEnd m i ≡ yesOrNo (isFinished (reg m i .state))
@@ -89,11 +83,6 @@ module _ (m : Machine) (i : ℕ) (h : i < 32) (s : IsStream (reg m i)) where
 abbrev noneLeft : Stream → List (List ℕ) → Bool
 noneLeft t soFar = leb (length (elementsOf t)) (length soFar)
 
--- finished or open, by whether none is left
-either : (b : Bool) → (isOpen (cond b Finished Open) || isFinished (cond b Finished Open)) ≡ true
-either true = refl
-either false = refl
-
 -- finished exactly if none is left
 is-finished : (b : Bool) → isFinished (cond b Finished Open) ≡ b
 is-finished true = refl
@@ -106,7 +95,7 @@ module _ (t : Stream) (soFar : List (List ℕ)) (r : Register) (s : Inside t soF
 
   -- the stream is open or finished
   pub inside-stream : IsStream r
-  inside-stream = subst (λ k. (isOpen k || isFinished k) ≡ true) (sym (s .state)) (either (noneLeft t soFar))
+  inside-stream = subst (λ k. (isOpen k || isFinished k) ≡ true) (sym (s .state)) (ended-stream (noneLeft t soFar))
 
   -- all have moved where none is left
   none-left : length (elementsOf t) ≤ length soFar → soFar ≡ elementsOf t

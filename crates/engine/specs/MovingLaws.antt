@@ -2,15 +2,15 @@
 --
 --   inside-goes                      a stream goes on by a calculation that is not refused
 --   world-last                       the world after all of a history
---   in-turn-named, each-named        calculations that name registers
 --   did-inside, follow-inside        a stream goes on by a completed calculation; at every moment of a history
 use Prim.Native.Nat.{ℕ, zero, suc, _+_, _≤_, _<_}
 use mathlib.Core.Path.{_≡_, refl, sym, _∙_, ap, subst}
 use mathlib.Core.List.{List, [], _∷_, _++_, map, append-assoc, append-nil}
 use mathlib.Core.Bool.{true}
 use native.Mathlib.Omega.{arith}
-use lib.ListN.{length, getD, take, drop, length-append, take-append-drop}
+use lib.ListN.{length, take, drop, length-append, take-append-drop}
 use lib.Seq.{drop-drop, take-take, length-take-le}
+use Rattle.codec.specs.TestLaws.{never}
 use Rattle.codec.specs.declared.operation.Calculation.{Calculation}
 use Rattle.engine.specs.Loops.{elements}
 use Rattle.engine.specs.Chunks.{height}
@@ -19,19 +19,18 @@ use Rattle.engine.specs.Registers.{isOpen, shapeOf, nextChunk, stateAfte
 use Rattle.engine.specs.Calculate.{World, given, results, refusalOf, effect}
 use Rattle.engine.specs.Good.{Good, AllGood}
 use Rattle.engine.specs.ComeLaws.{come-open, next-front}
-use Rattle.engine.specs.CalculationLaws.{never, Named}
+use Rattle.engine.specs.CalculationLaws.{Named}
 use Rattle.engine.specs.EffectGood.{effect-good}
 use Rattle.engine.specs.StreamLaws.{movedIn, goes}
 use Rattle.engine.specs.HistoryLaws.{AllNamed}
 use Rattle.engine.specs.CalculatesLaws.{calculates-clear}
 use Rattle.engine.specs.DidLaws.{did-one, did-taken}
-use Rattle.engine.specs.Histories.{noPlaced, Did, Entry, Follow, worldAt, movedOf}
+use Rattle.engine.specs.Histories.{Did, Entry, Follow, worldAt, movedOf}
 use Rattle.engine.specs.Given.{Stream, patternOf}
 use Rattle.engine.specs.GivenLaws.{Bears, elementsOf, Inside}
 use Rattle.engine.specs.MomentLaws.{inside-stream}
 use Rattle.engine.specs.declared.check.Why.the-variants.{Nothing}
 use Rattle.engine.specs.declared.register.Register.{Register}
-use Rattle.engine.specs.declared.run.Placed.{Placed}
 
 -- ---- a calculation
 
@@ -94,19 +93,6 @@ pub world-last : (vl : ℕ) (es : List Entry) (w v : World) → Follow vl w es v
 unfolding Follow worldAt
 world-last vl [] w v f = f
 world-last vl (e ∷ es) w v f = world-last vl es (e .after) v (f .1)
-
--- each calculation of a body names registers
-pub in-turn-named : (cs : List Placed) → AllNamed cs → (k : ℕ) → Named (getD cs k noPlaced .calculation)
-unfolding AllNamed
-in-turn-named [] nm k = record { first = omega arith; second = omega arith; destination = omega arith }
-in-turn-named (c ∷ cs) nm zero = nm .0
-in-turn-named (c ∷ cs) nm (suc k) = in-turn-named cs (nm .1) k
-
--- and the reverse
-pub each-named : (cs : List Placed) → ((k : ℕ) → k < length cs → Named (getD cs k noPlaced .calculation)) → AllNamed cs
-unfolding AllNamed
-each-named [] f = tt
-each-named (c ∷ cs) f = (f 0 (omega arith), each-named cs (λ k h. f (suc k) (omega arith)))
 
 -- a stream goes on by a completed calculation, which leaves all registers good
 pub did-inside : (vl : ℕ) (c : Calculation) (w v : World) (taken : ℕ → List (List ℕ)) (i : ℕ) (t : Stream) (soFar : List (List ℕ)) → 8 ≤ vl

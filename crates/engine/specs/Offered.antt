@@ -18,6 +18,7 @@ use Rattle.engine.specs.Rules.{lowOrHigh, highsOf, product}
 use Rattle.engine.specs.Checks.{Check, _if_, firstOf}
 use Rattle.engine.specs.Registers.{isConfiguring, isOpen}
 use Rattle.engine.specs.Configure.{uncovered, checksFor}
+use Rattle.engine.specs.GoodLaws.{after-configuring}
 use Rattle.engine.specs.Given.{Stream, patternOf, Given, none, going, ended}
 use Rattle.engine.specs.GivenLaws.{elementsOf, Has}
 use Rattle.engine.specs.InStep.{Streaming}
@@ -46,10 +47,6 @@ checksGiven (op.End i) (ended t) = WrongState if true ∷ []
 checksGiven (op.Run i n) g = []
 
 -- an ended stream of which nothing has moved is open, or finished if it has no element
-shut : (b : Bool) → isConfiguring (cond b Finished Open) ≡ false
-shut true = refl
-shut false = refl
-
 opens : (b : Bool) → (isConfiguring (cond b Finished Open) || isOpen (cond b Finished Open)) ≡ not b
 opens true = refl
 opens false = refl
@@ -62,13 +59,13 @@ offered (op.Open h base) (going t) r k = rw (k .1)
 offered (op.Open h base) (ended t) r k = rw (k .state, opens (leb (length (elementsOf t)) 0))
 offered (op.Dimension d) none r k = rw k
 offered (op.Dimension d) (going t) r k = rw (k .1, k .0 .pattern)
-offered (op.Dimension d) (ended t) r k = rw (k .state, shut (leb (length (elementsOf t)) 0))
+offered (op.Dimension d) (ended t) r k = rw (k .state, after-configuring (leb (length (elementsOf t)) 0))
 offered (op.Modifier m) none r k = rw k
 offered (op.Modifier m) (going t) r k = rw (k .1, k .0 .pattern)
-offered (op.Modifier m) (ended t) r k = rw (k .state, shut (leb (length (elementsOf t)) 0))
+offered (op.Modifier m) (ended t) r k = rw (k .state, after-configuring (leb (length (elementsOf t)) 0))
 offered (op.End i) none r k = rw k
 offered (op.End i) (going t) r k = rw (k .1, k .0 .pattern)
-offered (op.End i) (ended t) r k = rw (k .state, shut (leb (length (elementsOf t)) 0))
+offered (op.End i) (ended t) r k = rw (k .state, after-configuring (leb (length (elementsOf t)) 0))
 offered (op.Run i n) g r k = refl
 
 -- once all operations of a stream are accepted its register has that stream, nothing moved

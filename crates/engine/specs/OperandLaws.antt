@@ -3,32 +3,26 @@
 --   LengthOf                 a vector length that is allowed
 --   source-count, source-outside, source-lanes, source-after   an operand that is a source
 --   target-count, target-outside, target-after, target-memory  one that is the destination
-use Prim.Native.Nat.{ℕ, zero, suc, _+_, _*_, _/_, _%_, _^_, _≤_, _<_, min}
-use mathlib.Core.Path.{_≡_, refl, sym, _∙_, ap, ap₂, subst}
+use Prim.Native.Nat.{ℕ, _/_, _≤_, _<_, min}
+use mathlib.Core.Path.{_≡_, refl, sym, _∙_, ap}
 use mathlib.Core.List.{List, [], _∷_, map}
 use mathlib.Core.Bool.{Bool, true, false, cond, not, _&&_}
 use native.Mathlib.Omega.{arith}
-use native.Mathlib.Nat.{le-div-iff-mul-le, mul-comm}
 use lib.ListN.{length, take, length-map, length-take}
 use lib.Dec.{ltb}
 use borrow.Author.Tests.{lt-ltb, le-ltb}
 use native.Mathlib.Decide.{decLt}
-use Rattle.engine.specs.Chunks.{chunk, chunkOf, groupsOf}
-use Rattle.engine.specs.ChunkLaws.{chunk-lanes, take-of-chunk}
-use Rattle.engine.specs.Memory.{fetch, stored, lanesFrom, contents, holding}
+use Rattle.engine.specs.Chunks.{chunk, groupsOf}
+use Rattle.engine.specs.ChunkLaws.{take-of-chunk}
+use Rattle.engine.specs.Memory.{fetch, stored, contents, holding}
 use Rattle.engine.specs.Calculate.{given, outside, readFrom, writtenTo, memoryAfter}
-use Rattle.engine.specs.Registers.{isOpen, shapeOf, nextChunk, movedTo, movedBy}
-use Rattle.engine.specs.Places.{addressesOf}
-use Rattle.engine.specs.Plans.{allWithin, fetchedAt, storedAt, within-elements, fetched-elements, stored-elements}
+use Rattle.engine.specs.Registers.{isOpen, shapeOf, nextChunk, movedBy}
+use Rattle.engine.specs.Plans.{allWithin, storedAt, within-elements, fetched-elements, stored-elements}
+use Rattle.engine.specs.EffectLaws.{length-lanes}
 use Rattle.engine.specs.Operands.{Operates, lanesOf}
 use Rattle.engine.specs.declared.stream.Pattern.{Pattern}
 use Rattle.engine.specs.declared.register.Register.{Register}
 use Rattle.engine.specs.declared.operand.Operand.{Operand}
-
-lanes-length : (bytes : List ℕ) (w k n : ℕ) → length (lanesFrom bytes w k n) ≡ n
-unfolding lanesFrom
-lanes-length bytes w k zero = refl
-lanes-length bytes w k (suc n) = ap suc (lanes-length bytes w (k + w) n)
 
 -- how many lanes a source gives
 pub given-length : (vl : ℕ) (memory : List ℕ) (r : Register) → length (given vl memory r) ≡ cond (isOpen (r .state)) (length (nextChunk vl r)) (r .valid)
@@ -37,7 +31,7 @@ given-length vl memory r = go (isOpen (r .state))
   where
     go : (b : Bool) → length (cond b (map (fetch (r .pattern) (r .width) memory) (nextChunk vl r)) (contents r)) ≡ cond b (length (nextChunk vl r)) (r .valid)
     go true = length-map (nextChunk vl r) (fetch (r .pattern) (r .width) memory)
-    go false = lanes-length (r .lanes) (r .width) 0 (r .valid)
+    go false = length-lanes (r .lanes) (r .width) 0 (r .valid)
 
 module _ (vl : ℕ) (memory : List ℕ) (r : Register) (o : Operand) (h : Operates r (vl / r .width) (r .valid) o) where
   -- as many lanes as it gives

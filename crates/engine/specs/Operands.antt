@@ -4,10 +4,10 @@
 --   lanesOf                the lanes that an operand gives
 --   resultsOn, whyOn, Calculated   a calculation on three registers and a memory
 --   Fitting, lanesOut, CarriedOut  operands that no check refused; the calculation carried out on them
-use Prim.Native.Nat.{ℕ, _*_, _/_, _≤_}
+use Prim.Native.Nat.{ℕ, _*_, _≤_}
 use mathlib.Core.Path.{_≡_}
 use mathlib.Core.List.{List}
-use mathlib.Core.Bool.{Bool, true, cond}
+use mathlib.Core.Bool.{true, cond}
 use lib.ListN.{length, take}
 use Rattle.codec.specs.declared.operation.Action.{Action}
 use Rattle.engine.specs.Chunks.{chunk}

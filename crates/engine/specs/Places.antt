@@ -5,7 +5,7 @@
 --   addressesOf             the addresses of elements
 --   stopsAt                 where a chunk ends
 --   Ready, Planned          a plan of the next chunk
-use Prim.Native.Nat.{ℕ, zero, suc, _+_, _≤_, _<_}
+use Prim.Native.Nat.{ℕ, _+_, _≤_, _<_}
 use mathlib.Core.Path.{_≡_}
 use mathlib.Core.List.{List, [], map}
 use mathlib.Core.Bool.{Bool, true, not, _||_}

@@ -12,7 +12,7 @@
 --   Unrefused                     nothing else is refused
 --   Encoded                       a sheet that is, from its first byte to its last, what was read
 --   Promise1
-use Prim.Native.Nat.{ℕ, zero, suc, _+_, _≤_, _<_}
+use Prim.Native.Nat.{ℕ, zero, suc, _≤_, _<_}
 use mathlib.Core.Path.{_≡_}
 use mathlib.Core.Logic.{_⊎_, _↔_}
 use mathlib.Core.Bool.{true}

@@ -1,5 +1,6 @@
 -- The history of a run: execute has one, and one answer at most has one.
 --
+--   refused-first             a calculation is refused by the first check that applies
 --   turned-ran                a run of its calculations in turn has a history
 --   ran-named, ran-followed   one that has a history: its calculations name registers; its worlds and what it moved are the engine's
 --   ran-turned                it is a run of its calculations in turn
@@ -26,7 +27,7 @@ use Rattle.engine.specs.declared.check.Why.the-variants.{Because}
 use Rattle.engine.specs.declared.run.Placed.{Placed}
 
 -- a calculation is refused by the first check that applies
-refused-first : (vl : ℕ) (c : Calculation) (w : World) (x : Refusal) → (refusalOf vl c w ≡ Because x) ↔ First (checksIn vl c w) x
+pub refused-first : (vl : ℕ) (c : Calculation) (w : World) (x : Refusal) → (refusalOf vl c w ≡ Because x) ↔ First (checksIn vl c w) x
 unfolding refusalOf
 refused-first vl c w x = (first-because (checksIn vl c w) x, because-first (checksIn vl c w) x)
 

@@ -17,9 +17,11 @@ use lib.ListN.{getD, take, drop}
 use lib.Dec.{leb, eqb}
 use lib.IntN.{ℤ, natAbs}
 use borrow.Author.Tests.{lt-leb, eqb-true, eqb-false, eq-eqb, ne-eqb, not-true}
+use Rattle.codec.specs.TestLaws.{never, and-right}
 use Rattle.codec.specs.Refusals.{numberOf, is-numbered}
 use Rattle.codec.specs.Numbers.{numberAt, signedOf, asSigned}
 use Rattle.codec.specs.NumberLaws.{areBytes}
+use Rattle.codec.specs.StandingLaws.{stands-split}
 use Rattle.codec.specs.Headers.{bitsOf, fixedBits, carriedBits, headerSaid, headerOf, couplingInRange}
 use Rattle.codec.specs.Operations.{field, signedField, anyNumber, opened, openAt, dimensionAt, modifierAt, endAt, runAt, kindAt, operationAt, calculationAt, parameterCoded, behaviourCoded, actionCoded, actionCode, operationInRange, calculationInRange}
 use Rattle.codec.specs.OperationLaws.{operation-written, operation-read, calculation-written, calculation-read}
@@ -39,10 +41,9 @@ use Rattle.codec.specs.declared.operation.Body.{Body}
 use Rattle.codec.specs.declared.operation.Body.the-variants as body
 use Rattle.codec.specs.declared.refusal.Refusal.{Refusal}
 use Rattle.codec.specs.declared.refusal.Refusal.the-variants.{OutOfRange, FixedBits, NotCarried}
-use Rattle.engine.specs.CalculationLaws.{never, and-right}
 use Rattle.engine.specs.AllowedLaws.{fails, leb-plain, eqb-plain, and-plain, nonneg-plain}
 use Rattle.engine.specs.Promise1.{NumberAt, Range, fieldsOf, calculationFields, AtFault, FixedRight, NoneCarried, WordFault, Unread, UnreadCalculation, CouplingInRange, InRange, Written, Calculated}
-use Rattle.engine.specs.FieldLaws.{stands-split, copy-plain, reads, Through, reads-fault, reads-through, reads-gives}
+use Rattle.engine.specs.FieldLaws.{copy-plain, reads, Through, reads-fault, reads-through, reads-gives}
 
 -- ---- header words
 

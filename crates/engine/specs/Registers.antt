@@ -5,8 +5,8 @@
 --   toCome, nextChunk                           the elements still to come; the next chunk
 --   indexOf, stateAfter, movedBy                a stream after some elements more moved
 --   freshMachine, reg, put                      the 32 registers
-use Prim.Native.Nat.{ℕ, zero, suc, _+_, _/_}
-use mathlib.Core.List.{List, [], _∷_, _++_}
+use Prim.Native.Nat.{ℕ, _+_, _/_}
+use mathlib.Core.List.{List, [], _++_}
 use mathlib.Core.Bool.{Bool, true, false, cond, not, _&&_}
 use lib.ListN.{length, getD, take, drop, set, replicate}
 use lib.Dec.{leb}

@@ -14,15 +14,16 @@ use native.Mathlib.Decide.{decLt}
 use lib.Arith.{digits-div, digits-mod}
 use lib.ListN.{length, getD, take, drop, length-append, length-take, length-drop, List·getD-append}
 use lib.Seq.{getD-take, getD-drop, take-append-add}
+use Rattle.codec.specs.TestLaws.{never}
 use Rattle.codec.specs.declared.refusal.Refusal.{Refusal}
 use Rattle.engine.specs.Members.{getD-past}
 use Rattle.engine.specs.Registers.{isOpen, isFinished, toCome, reg}
 use Rattle.engine.specs.Calculate.{World, refusalOf}
 use Rattle.engine.specs.Run.{Progress, begun, execute}
-use Rattle.engine.specs.CalculationLaws.{never}
 use Rattle.engine.specs.HistoryLaws.{afterAll, times}
 use Rattle.engine.specs.RunLaws as runs
 use Rattle.engine.specs.EndLaws.{Running, execute-finishes}
+use Rattle.engine.specs.AllowedLaws.{is-open}
 use Rattle.engine.specs.Histories.{noPlaced, inTurn}
 use Rattle.engine.specs.TurnLaws.{Turned}
 use Rattle.engine.specs.declared.register.State.{State}
@@ -78,16 +79,7 @@ module _ (body : List Placed) where
       ∙ take-append-add body (times rounds body ++ l) (j * length body)
       ∙ ap (λ m. body ++ m) (times-take j rounds l (omega arith))
 
--- ---- a state by its flag
-
--- open
-open-state : (k : State) → isOpen k ≡ true → k ≡ Open
-open-state Plain e = never e
-open-state Configuring e = never e
-open-state Open e = refl
-open-state Finished e = never e
-
--- finished
+-- a finished state by its test
 finished-state : (k : State) → isFinished k ≡ true → k ≡ Finished
 finished-state Plain e = never e
 finished-state Configuring e = never e
@@ -121,7 +113,7 @@ module _ (vl loop : ℕ) (body : List Placed) (w : World) (r : Progress) (q : ru
 
   -- each round began with the loop register's stream open; so did the body of which the first calculations are done
   opened : (j : ℕ) → j ≤ q .rounds → j * length body < length all → reg (afterAll vl w (times j body) .machine) loop .state ≡ Open
-  opened j h b = open-state _ (go (eq-or-lt-of-le h) (r .verdict) refl)
+  opened j h b = is-open _ .0 (go (eq-or-lt-of-le h) (r .verdict) refl)
     where
       go : (j ≡ q .rounds) ⊎ (j < q .rounds) → (v : Verdict) → r .verdict ≡ v → isOpen (reg (afterAll vl w (times j body) .machine) loop .state) ≡ true
       go (inr l) v e = q .began j l
@@ -163,7 +155,7 @@ module _ (vl loop : ℕ) (body : List Placed) (w : World) (r : Progress) (q : ru
         let n = next x at s in (
           ap (λ c. refusalOf vl (c .calculation) (r .world)) n ∙ s .refused,
           sym (ap (λ c. c .place) n ∙ s .place),
-          λ e. ap (λ y. reg (y .machine) loop .state) (whole e) ∙ open-state _ (q .broken x at v),
+          λ e. ap (λ y. reg (y .machine) loop .state) (whole e) ∙ is-open _ .0 (q .broken x at v),
         );
   }
 

@@ -4,7 +4,7 @@
 --   only                    the modifiers that add, or those that subtract
 --   highAt, lowAt, highs    high and low, from the outermost dimension inward
 --   lowOrHigh, product      what 8 and 9 look at
-use Prim.Native.Nat.{ℕ, zero, suc, _+_, _-_, _*_, max}
+use Prim.Native.Nat.{ℕ, zero, suc, _-_, _*_, max}
 use mathlib.Core.List.{List, [], _∷_, map}
 use mathlib.Core.Bool.{Bool, true, false, cond, not, _||_}
 use lib.ListN.{getD}

@@ -5,7 +5,7 @@
 --   repeat, execute        the body while the loop register's stream is open
 use Prim.Native.Nat.{ℕ, zero, suc, _+_}
 use mathlib.Core.List.{List, [], _∷_}
-use mathlib.Core.Bool.{Bool, true, false, cond}
+use mathlib.Core.Bool.{cond}
 use lib.ListN.{length}
 use Rattle.engine.specs.Registers.{isOpen, toCome, reg}
 use Rattle.engine.specs.Calculate.{World, refusalOf, effect}

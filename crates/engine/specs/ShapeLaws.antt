@@ -3,6 +3,7 @@
 --   some-at, some-none, some-out   a test of some member of a list, by places
 --   first-at, first-none, first-out   the same of the first members
 --   fits-ranged                    a shape that passes the first three checks is ranged
+--   many-refused                   a shape of more than eight modifiers is refused with 6
 --   ranged-fits                    a ranged shape passes all but the rules on low, high and product
 --   shape-passes, shape-passed     a ranged shape of some dimensions is refused exactly by those rules
 use Prim.Native.Nat.{ℕ, zero, suc, _≤_, _<_}
@@ -13,9 +14,10 @@ use native.Mathlib.Omega.{arith}
 use lib.ListN.{length, getD, take, List·getD-eq-default}
 use lib.Seq.{length-take-le, getD-take}
 use lib.Dec.{ltb, leb}
-use borrow.Author.Tests.{ltb-true, ltb-false, leb-false, le-ltb, lt-leb, ne-eqb}
+use borrow.Author.Tests.{ltb-true, ltb-false, leb-false, lt-ltb, le-ltb, lt-leb, ne-eqb}
+use Rattle.codec.specs.TestLaws.{or-false, or-second}
 use Rattle.codec.specs.declared.refusal.Refusal.{Refusal}
-use Rattle.codec.specs.declared.refusal.Refusal.the-variants.{LowHigh, Product}
+use Rattle.codec.specs.declared.refusal.Refusal.the-variants.{TooMany, LowHigh, Product}
 use Rattle.engine.specs.Loops.{modifiersOf}
 use Rattle.engine.specs.Rules.{lowOrHigh, highsOf, product}
 use Rattle.engine.specs.Checks.{firstOf}
@@ -26,17 +28,13 @@ use Rattle.engine.specs.declared.check.Why.the-variants.{Nothing, Becaus
 use Rattle.engine.specs.declared.stream.Modifier.{Modifier}
 use Rattle.engine.specs.declared.stream.Shape.{Shape}
 
-or-true : (a b : Bool) → b ≡ true → (a || b) ≡ true
-or-true true b e = refl
-or-true false b e = e
-
 module _ {A : Type 0} (p : A → Bool) (z : A) where
   -- a member of which the test holds
   pub some-at : (l : List A) (k : ℕ) → k < length l → p (getD l k z) ≡ true → some p l ≡ true
   unfolding some
   some-at [] k h e = absurd (omega arith)
   some-at (x ∷ l) zero h e = rw e
-  some-at (x ∷ l) (suc k) h e = or-true (p x) (some p l) (some-at l k (omega arith) e)
+  some-at (x ∷ l) (suc k) h e = or-second (p x) (some p l) (some-at l k (omega arith) e)
 
   -- none
   pub some-none : (l : List A) → ((k : ℕ) → k < length l → p (getD l k z) ≡ false) → some p l ≡ false
@@ -65,14 +63,6 @@ module _ {A : Type 0} (p : A → Bool) (z : A) where
   pub first-out : (l : List A) (n : ℕ) → n ≤ length l → some p (take n l) ≡ false → (k : ℕ) → k < n → p (getD l k z) ≡ false
   first-out l n m e k h = sym (ap p (getD-take n l k z h)) ∙ some-out (take n l) e k (omega (arith, length-take-le n l m))
 
-or-left : (a b : Bool) → (a || b) ≡ false → a ≡ false
-or-left true b e = e
-or-left false b e = refl
-
-or-right : (a b : Bool) → (a || b) ≡ false → b ≡ false
-or-right true b e = absurd (let n : _≡_ {A = ℕ} 0 1 = cc in omega arith)
-or-right false b e = e
-
 -- a shape that passes the first three checks is ranged
 pub fits-ranged : (s : Shape) → length (s .sizes) ≡ 7 → length (s .modifiers) ≡ 8 → s .dims ≤ 7 → s .mods ≤ 8 → some tooLarge (s .sizes) ≡ false
     → some farMoved (modifiersOf s) ≡ false → some (misplacedIn (s .dims)) (modifiersOf s) ≡ false → Ranged s
@@ -93,10 +83,15 @@ fits-ranged s sizes modifiers dims mods small near placed =
         let f : farMoved m ≡ false = first-out farMoved noModifier (s .modifiers) (s .mods) n near k h in
         let p : misplacedIn (s .dims) m ≡ false = first-out (misplacedIn (s .dims)) noModifier (s .modifiers) (s .mods) n placed k h in
         record {
-          below = leb-false (m .owner) (m .target) (or-left (leb (m .owner) (m .target)) (leb (s .dims) (m .owner)) p);
-          owned = leb-false (s .dims) (m .owner) (or-right (leb (m .owner) (m .target)) (leb (s .dims) (m .owner)) p);
+          below = leb-false (m .owner) (m .target) (or-false (leb (m .owner) (m .target)) (leb (s .dims) (m .owner)) p .0);
+          owned = leb-false (s .dims) (m .owner) (or-false (leb (m .owner) (m .target)) (leb (s .dims) (m .owner)) p .1);
           displaced = ltb-false 1048576 (m .displacement) f;
         }
+
+-- a shape of more than eight modifiers is refused with 6, whatever else
+pub many-refused : (s : Shape) → 8 < s .mods → checkShape s ≡ Because TooMany
+unfolding checkShape firstOf
+many-refused s h = rw (or-second (ltb 7 (s .dims)) (ltb 8 (s .mods)) (lt-ltb 8 (s .mods) h))
 
 -- a ranged shape of some dimensions is refused only by the rules on low, high and product
 pub ranged-fits : (s : Shape) → Ranged s → 1 ≤ s .dims

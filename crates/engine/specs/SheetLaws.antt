@@ -9,14 +9,15 @@
 --   run-lengths, run-ends                     the answer of a sheet, by its lengths and by how its operations end
 --   from-good, run-good                       the registers that a sheet leaves are good
 --   Passes, run-passes                        a sheet that ends in a run
-use Prim.Native.Nat.{ℕ, zero, suc, _-_, _%_, _≤_, _<_}
+use Prim.Native.Nat.{ℕ, zero, suc, _-_, _≤_, _<_}
 use mathlib.Core.Path.{_≡_, refl, sym, _∙_, ap, subst}
 use mathlib.Core.List.{List, [], _∷_}
 use mathlib.Core.Bool.{Bool, true, false, cond, _&&_, _||_}
 use native.Mathlib.Omega.{arith}
 use lib.ListN.{length}
-use lib.Dec.{eqb, ltb, leb}
+use lib.Dec.{ltb, leb}
 use borrow.Author.Tests.{lt-ltb, le-ltb, ltb-true, ltb-false, leb-true}
+use Rattle.codec.specs.TestLaws.{both}
 use Rattle.codec.specs.NumberLaws.{areBytes}
 use Rattle.codec.specs.Operations.{isRegister, isCount, operationInRange, calculationInRange, operationAt, calculationAt}
 use Rattle.codec.specs.OperationLaws.{operation-read, calculation-read}
@@ -35,9 +36,10 @@ use Rattle.engine.specs.Run.{begun, execute}
 use Rattle.engine.specs.Sheets.{Calculations, whole, broken, before, onCalculation, bodyAt, names, isLoopRegister, Ending, over, runs, refused, endingOf, Prepared, onOperation, onDecoded, operationsFrom, prepare, allowed, onEnding, refusedAt, runFrom, run}
 use Rattle.engine.specs.Good.{AllGood}
 use Rattle.engine.specs.GoodLaws.{fresh-machine-good, configured-good}
-use Rattle.engine.specs.CalculationLaws.{both, named}
+use Rattle.engine.specs.CalculationLaws.{named}
 use Rattle.engine.specs.HistoryLaws.{AllNamed}
 use Rattle.engine.specs.EndLaws.{Running, running-begun, execute-finishes, execute-good}
+use Rattle.engine.specs.AllowedLaws.{fits-allowed}
 use Rattle.engine.specs.declared.check.Why.{Why}
 use Rattle.engine.specs.declared.check.Why.the-variants.{Nothing, Because}
 use Rattle.engine.specs.declared.register.Machine.{Machine}
@@ -242,10 +244,7 @@ prepare-good vl s m p g = operations-good vl (length s) s 0 m p g
 
 -- an allowed vector length is 8 bytes at least
 pub allowed-lanes : (vl len : ℕ) → allowed vl len ≡ true → 8 ≤ vl
-allowed-lanes vl len e =
-    let a = both (leb 8 vl && leb vl 64 && eqb (vl % 8) 0) (leb len 65536) e in
-    let b = both (leb 8 vl && leb vl 64) (eqb (vl % 8) 0) (a .0) in
-    leb-true 8 vl (both (leb 8 vl) (leb vl 64) (b .0) .0)
+allowed-lanes vl len e = fits-allowed vl len .0 e .least
 
 -- the world that a sheet's operations leave
 abbrev pub worldOf : List ℕ → Machine → List ℕ → World

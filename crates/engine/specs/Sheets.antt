@@ -7,12 +7,10 @@
 --   allowed, runFrom, run    the sheet's answer
 use Prim.Native.Nat.{ℕ, zero, suc, _%_}
 use mathlib.Core.List.{List, [], _∷_}
-use mathlib.Core.Bool.{Bool, true, false, cond, not, _&&_, _||_}
+use mathlib.Core.Bool.{Bool, false, cond, _&&_, _||_}
 use lib.ListN.{length}
 use lib.Dec.{eqb, ltb, leb}
 use Rattle.codec.specs.Operations.{operationAt, calculationAt}
-use Rattle.codec.specs.declared.number.Cursor.{Cursor}
-use Rattle.codec.specs.declared.operation.Operation.{Operation}
 use Rattle.codec.specs.declared.operation.Operation.the-variants as op
 use Rattle.codec.specs.declared.operation.Decoded.{Decoded}
 use Rattle.codec.specs.declared.operation.Decoded.the-variants as decoded
@@ -28,8 +26,7 @@ use Rattle.engine.specs.declared.check.Why.{Why}
 use Rattle.engine.specs.declared.check.Why.the-variants.{Nothing, Because}
 use Rattle.engine.specs.declared.register.Machine.{Machine}
 use Rattle.engine.specs.declared.run.Placed.{Placed}
-use Rattle.engine.specs.declared.run.Report.{Report}
-use Rattle.engine.specs.declared.run.Verdict.the-variants.{Done, Refused}
+use Rattle.engine.specs.declared.run.Verdict.the-variants.{Refused}
 
 -- a body read whole, with the place behind it, or its refusal
 pub data Calculations : Type 0 where

@@ -2,19 +2,21 @@
 --
 --   written-on, calculated-on                 each takes a byte at least
 --   decoded-done, decoded-refused             one operation: done, refused
---   onward-written, turns-onward, turns-snoc  the sheet from an operation on; from behind operations done in turn on; one more of them
+--   onward-written, turns-onward   the sheet from an operation on; from behind operations done in turn on
+--   turns-append, turns-snoc                  turns behind turns; one more
 --   turns-on, body-on                         places go up, and stay within the sheet
+--   body-one                                  one calculation is a body
 --   body-whole, body-broken, Breaks, body-either   a body: read whole, broken off; one of both
---   stands-cut, turns-cut, bytes-cut          in a sheet that is cut behind it, the same stands
---   turns-bytes, body-bytes, stands-all       the bytes of what stands in a sheet, joined; a sheet that is such bytes from its first to its last
-use Prim.Native.Nat.{ℕ, zero, suc, _-_, _≤_, _<_}
+--   turns-cut, bytes-cut                      in a sheet that is cut behind it, the same stands
+--   turns-bytes, body-bytes                   the bytes of what stands in a sheet, joined
+use Prim.Native.Nat.{ℕ, zero, suc, _≤_, _<_}
 use mathlib.Core.Path.{_≡_, refl, sym, _∙_, ap, subst}
 use mathlib.Core.Logic.{_⊎_, inl, inr}
 use mathlib.Core.List.{List, [], _∷_, _++_}
 use native.Mathlib.Omega.{arith}
-use lib.ListN.{length, take, drop, take-append-drop, length-drop}
-use lib.Seq.{length-take-le, take-append-le, drop-append-le, take-length}
+use lib.ListN.{length, take}
 use Rattle.codec.specs.NumberLaws.{areBytes, Stands, stands-join}
+use Rattle.codec.specs.StandingLaws.{stands-none, stands-cut}
 use Rattle.codec.specs.Operations.{calculationAt}
 use Rattle.codec.specs.OperationLaws.{operation-read, calculation-read}
 use Rattle.codec.specs.declared.number.Cursor.{Cursor}
@@ -89,13 +91,18 @@ turns-onward s at m [] to n p h = λ i. onward s (h .0 i) (h .1 i)
 turns-onward s at m (o ∷ os) to n p (next, w, a, t) =
     onward-written s at m o next p w ∙ decoded-done s at m o (record { at = next }) (onward s) a ∙ turns-onward s next (after o m) os to n p t
 
+-- turns behind turns
+pub turns-append : (s : List ℕ) (at : ℕ) (m : Machine) (os : List Operation) (place : ℕ) (n : Machine) (ps : List Operation) (to : ℕ) (q : Machine)
+    → Turns s at m os place n → Turns s place n ps to q → Turns s at m (os ++ ps) to q
+unfolding Turns
+turns-append s at m [] place n ps to q (e, f) t = subst (λ k. Turns s k m ps to q) (sym e) (subst (λ k. Turns s place k ps to q) (sym f) t)
+turns-append s at m (o ∷ os) place n ps to q (next, w, a, r) t = (next, w, a, turns-append s next (after o m) os place n ps to q r t)
+
 -- one more
 pub turns-snoc : (s : List ℕ) (at : ℕ) (m : Machine) (os : List Operation) (place : ℕ) (n : Machine) (o : Operation) (to : ℕ) → Turns s at m os place n
     → Written s place o to → Accepts o (reg n (registerOf o)) → Turns s at m (os ++ (o ∷ [])) to (after o n)
 unfolding Turns
-turns-snoc s at m [] place n o to (e, f) w a =
-    (to, subst (λ k. Written s k o to) (sym e) w, subst (λ k. Accepts o (reg k (registerOf o))) (sym f) a, (refl, ap (after o) f))
-turns-snoc s at m (q ∷ os) place n o to (next, v, b, t) w a = (next, v, b, turns-snoc s next (after q m) os place n o to t w a)
+turns-snoc s at m os place n o to t w a = turns-append s at m os place n (o ∷ []) to (after o n) t (to, w, a, (refl, refl))
 
 -- places go up, and stay within the sheet
 pub turns-on : (s : List ℕ) (at : ℕ) (m : Machine) (os : List Operation) (to : ℕ) (n : Machine) → areBytes s → at ≤ length s → Turns s at m os to n
@@ -121,6 +128,11 @@ body-on s at (c ∷ cs) to p h (next, e, k, b) =
     let q = calculated-on s at (c .calculation) next p k in
     let r = body-on s next cs to p (q .1) b in
     (omega arith, r .1)
+
+-- one calculation is a body
+pub body-one : (s : List ℕ) (at : ℕ) (c : Calculation) (to : ℕ) → Calculated s at c to → BodyAt s at (record { place = at; calculation = c } ∷ []) to
+unfolding BodyAt
+body-one s at c to k = (to, refl, k, refl)
 
 -- one calculation that stands there, and the rest of its body
 body-next : (s : List ℕ) (n at : ℕ) (c : Placed) (next : ℕ) → c .place ≡ at → Calculated s at (c .calculation) next → bodyAt s (suc n) at ≡ before c (bodyAt s n next)
@@ -182,24 +194,7 @@ body-either s (suc n) at p = go (calculationAt s at) refl (λ next. body-either 
 
 -- ---- a sheet cut short
 
--- what stands in the front part of a sheet stands in that part
-stands-front : (u v l : List ℕ) (at to : ℕ) → Stands (u ++ v) at l to → to ≤ length u → Stands u at l to
-stands-front u v l at to h k = record {
-  bytes =
-      sym (take-append-le (to - at) (drop at u) v (omega (arith, length-drop at u)))
-      ∙ ap (take (to - at)) (sym (drop-append-le at u v (omega (arith, h .behind))))
-      ∙ h .bytes;
-  behind = h .behind;
-  within = k;
-}
-
--- what stands before a place stands in the sheet cut there
-pub stands-cut : (s : List ℕ) (cut : ℕ) (l : List ℕ) (at to : ℕ) → cut ≤ length s → to ≤ cut → Stands s at l to → Stands (take cut s) at l to
-stands-cut s cut l at to h k w =
-    let e : length (take cut s) ≡ cut = length-take-le cut s h in
-    stands-front (take cut s) (drop cut s) l at to (subst (λ t. Stands t at l to) (sym (take-append-drop cut s)) w) (omega arith)
-
--- so do operations
+-- operations done before a place are done in the sheet cut there
 pub turns-cut : (s : List ℕ) (cut at : ℕ) (m : Machine) (os : List Operation) (to : ℕ) (n : Machine) → areBytes s → cut ≤ length s → to ≤ cut
     → Turns s at m os to n → Turns (take cut s) at m os to n
 unfolding Turns
@@ -221,10 +216,6 @@ bytes-cut (b ∷ s) (suc cut) p (suc i) = bytes-cut s cut (λ j. p (suc j)) i
 
 -- ---- the bytes of a sheet
 
--- none
-stands-none : (s : List ℕ) (at : ℕ) → at ≤ length s → Stands s at [] at
-stands-none s at h = let z : at - at ≡ 0 = omega arith in record { bytes = rw z; behind = omega arith; within = h }
-
 -- operations in turn: their encodings, with what their free bits are worth
 pub turns-bytes : (s : List ℕ) (at : ℕ) (m : Machine) (os : List Operation) (to : ℕ) (n : Machine) → at ≤ length s → Turns s at m os to n
     → (frees : List ℕ) × Stands s at (encodings frees os) to
@@ -239,7 +230,3 @@ pub body-bytes : (s : List ℕ) (at : ℕ) (cs : List Placed) (to : ℕ) → at 
 unfolding BodyAt bodyBytes
 body-bytes s at [] to h e = subst (Stands s at []) e (stands-none s at h)
 body-bytes s at (c ∷ cs) to h (next, e, k, b) = stands-join (k .stands) (body-bytes s next cs to (k .stands .within) b)
-
--- what stands from the first byte to the last is the sheet
-pub stands-all : (s l : List ℕ) → Stands s 0 l (length s) → s ≡ l
-stands-all s l h = let z : length s - 0 ≡ length s = omega arith in sym (rw z (take-length s)) ∙ h .bytes

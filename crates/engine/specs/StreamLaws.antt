@@ -18,13 +18,14 @@ use lib.ListN.{length, take}
 use lib.Seq.{take-take, length-take-le}
 use lib.Dec.{eqb}
 use borrow.Author.Tests.{eqb-true}
+use Rattle.codec.specs.TestLaws.{never, and-false, both, and-left, and-right, and-both}
 use Rattle.codec.specs.declared.operation.Calculation.{Calculation}
 use Rattle.engine.specs.Memory.{holding}
 use Rattle.engine.specs.Registers.{isOpen, isFinished, isLoad, openLoad, openStore, toCome, nextChunk, movedBy, reg}
 use Rattle.engine.specs.Calculate.{World, given, results, refusalOf, readFrom, writtenTo, effect}
 use Rattle.engine.specs.Good.{Good}
 use Rattle.engine.specs.ComeLaws.{come-holding, come-moved-holding, split, next-front, next-some, IsStream, stream-moved}
-use Rattle.engine.specs.CalculationLaws.{never, and-false, both, and-left, and-right, and-both, checked}
+use Rattle.engine.specs.CalculationLaws.{checked}
 use Rattle.engine.specs.EffectLaws.{effect-reg, read-open, read-shut, written-open, written-shut, open-store, room}
 use Rattle.engine.specs.declared.check.Why.the-variants.{Nothing}
 use Rattle.engine.specs.declared.register.Register.{Register}

@@ -6,7 +6,7 @@
 --   copies, triangle .. three             the sheets
 --   rows                                  the starred rows, together
 --   examples                              others of 01
-use Prim.Native.Nat.{ℕ, zero, suc, _+_}
+use Prim.Native.Nat.{ℕ, zero, suc}
 use mathlib.Core.Path.{_≡_, refl}
 use mathlib.Core.List.{List, [], _∷_, _++_, map}
 use lib.ListN.{length}

@@ -5,27 +5,22 @@
 --   standing                             at every position, what is to come is the element there and what the walk finds after it
 use Prim.Native.Nat.{ℕ, zero, suc, _+_, _-_, _≤_, _<_}
 use mathlib.Core.Path.{_≡_, refl, sym, _∙_, ap, ap₂, subst}
-use mathlib.Core.List.{List, [], _∷_, _++_, append-assoc, map}
-use mathlib.Core.Bool.{Bool, true, false, cond, _&&_}
-use lib.ListN.{getD, drop, set, length, take, length-drop, replicate, length-set, getD-replicate, length-append, length-replicate, length-map}
+use mathlib.Core.List.{List, [], _∷_, _++_, append-assoc, map, map-append}
+use mathlib.Core.Bool.{cond, _&&_}
+use lib.ListN.{getD, drop, set, length, take, replicate, length-set, getD-replicate, length-append, length-replicate, length-map}
 use lib.Seq.{drop-cons, drop-set-lt, getD-set-same, take-append-add}
 use lib.Dec.{eqb}
-use lib.IntN.{ℤ, pos, _+ℤ_}
-use native.Mathlib.Numerals.{add-one, sub-one}
+use lib.IntN.{pos, _+ℤ_}
+use native.Mathlib.Numerals.{add-one}
 use native.Mathlib.Omega.{arith}
-use native.Mathlib.Nat.{zero-add}
 use native.Mathlib.Decide.{decLt}
 use Rattle.codec.specs.declared.operation.Parameter.{Parameter}
 use Rattle.codec.specs.declared.operation.Parameter.the-variants.{Size}
-use Rattle.engine.specs.Loops.{modifiersOf, sameParameter, reach, ownerIndex, share, added, natural, sizeAt, span, loops, elements}
+use Rattle.engine.specs.Loops.{modifiersOf, sameParameter, reach, added, natural, sizeAt, span, loops, elements}
 use Rattle.engine.specs.Registers.{indexOf}
 use Rattle.engine.specs.Walk.{todo, sum, within, cost, at, after, costAt}
 use Rattle.engine.specs.declared.stream.Modifier.{Modifier}
 use Rattle.engine.specs.declared.stream.Shape.{Shape}
-
-map-append : {A B : Type 0} (f : A → B) (l m : List A) → map f (l ++ m) ≡ map f l ++ map f m
-map-append f [] m = refl
-map-append f (x ∷ l) m = ap (λ r. f x ∷ r) (map-append f l m)
 
 span-none : {A : Type 0} (f : ℕ → List A) (k n : ℕ) → n ≡ 0 → span f k n ≡ []
 unfolding span

@@ -44,7 +44,7 @@ pub struct Settled {
 }
 
 // "vector length | 8 to 64 bytes, a multiple of 8", "memory | 0 to 65,536 bytes"
-fn is_allowed(vl: u64, size: usize) -> bool
+pub fn is_allowed(vl: u64, size: usize) -> bool
     ensures { λ r. ⌜ r ≡ allowed vl size ⌝ }
 {
     if vl < 8 {

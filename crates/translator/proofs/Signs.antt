@@ -1,6 +1,6 @@
 -- Numbers below 0 and from 0 on, as the code takes them apart.
-use Prim.Native.Nat.{ℕ, suc, _+_, _-_, _<_, _^_}
-use mathlib.Core.Path.{_≡_, refl, sym}
+use Prim.Native.Nat.{ℕ, suc, _+_, _-_}
+use mathlib.Core.Path.{_≡_, refl}
 use mathlib.Core.Bool.{true, false}
 use native.Mathlib.Omega.{arith}
 use lib.IntN.{ℤ, pos, negsuc, natAbs, _-ℤ_}

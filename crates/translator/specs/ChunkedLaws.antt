@@ -3,7 +3,7 @@
 --   plain-append, chunks-plain     visits in two parts; chunks in order
 --   chunks-nest, chunks-join       the chunks of the streams are those of the visits; joined, they are the visits
 --   none-in-chunk                  if no visit reads what an earlier one wrote, none reads what one of its chunk wrote
-use Prim.Native.Nat.{ℕ, zero, suc, _+_, _-_, _≤_}
+use Prim.Native.Nat.{ℕ, zero, suc, _+_, _≤_}
 use mathlib.Core.Path.{_≡_, refl, sym, _∙_, ap, ap₂, subst}
 use mathlib.Core.List.{List, [], _∷_, _++_}
 use native.Mathlib.Omega.{arith}

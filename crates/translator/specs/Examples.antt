@@ -12,7 +12,7 @@ use lib.ListN.{length, replicate}
 use lib.IntN.{ℤ, pos, negsuc}
 use Rattle.codec.specs.Numbers.{groupsAt, numberAt, signedOf, groupsOf}
 use Rattle.codec.specs.Headers.{wordOf}
-use Rattle.codec.specs.Operations.{operationBytes, calculationBytes}
+use Rattle.codec.specs.Operations.{operationBytes, calculationBytes, bytesOfAll}
 use Rattle.codec.specs.declared.header.Kind.the-variants.{Load, Store}
 use Rattle.codec.specs.declared.header.Width.the-variants.{H}
 use Rattle.codec.specs.declared.header.Coupling.the-variants.{Coupled}
@@ -37,7 +37,7 @@ use Rattle.translator.specs.Nests.{termsAt, countAt, visits, placeUpTo, 
 use Rattle.translator.specs.NestRules.{nonzeroFor, nonzeroFrom, total, highsFrom, lowOrHighFrom, highsOf}
 use Rattle.translator.specs.Reading.{Nested, nest, refused, nestAt, numbersBytes, nestBytes}
 use Rattle.translator.specs.Reading
-use Rattle.translator.specs.NestSheets.{modifiersAt, modifiersFrom, modifiersOf, dimensionsFrom, streamOf, shapeOf, patternFor, dimensionOps, sheetOps, bytesOfAll, sheetOf}
+use Rattle.translator.specs.NestSheets.{modifiersAt, modifiersFrom, modifiersOf, dimensionsFrom, streamOf, shapeOf, patternFor, dimensionOps, sheetOps, sheetOf}
 use Rattle.translator.specs.Translation.{translated, roomAfter, Answered, sheet, refusal, asTranslated}
 use Rattle.translator.specs.declared.nest.Nest.{Nest}
 

@@ -2,7 +2,7 @@
 --
 --   noneKept, keepOne, keepAll    none, one more, and those of a list
 --   keptShape                     the shape that comes of it
-use Prim.Native.Nat.{ℕ, _+_}
+use Prim.Native.Nat.{_+_}
 use mathlib.Core.List.{List, [], _∷_}
 use mathlib.Core.Bool.{cond}
 use lib.ListN.{set, replicate}

@@ -5,23 +5,21 @@
 --   from-next, from-end       those of the dimensions, one by one
 --   kept-all, kept-more       what is kept of a list of at most eight, and of a longer one
 --   kept-shape                the checks of the shape that comes of it are those of the nest's shape
-use Prim.Native.Nat.{ℕ, zero, suc, _+_, _-_, _≤_, _<_}
+use Prim.Native.Nat.{ℕ, suc, _+_, _-_, _≤_, _<_}
 use mathlib.Core.Path.{_≡_, refl, sym, _∙_, ap}
 use mathlib.Core.List.{List, [], _∷_, _++_, append-assoc, append-nil}
-use mathlib.Core.Bool.{Bool, true, false, cond, _||_}
+use mathlib.Core.Bool.{Bool, true, false, cond}
 use native.Mathlib.Omega.{arith}
 use native.Mathlib.Decide.{decLt}
-use lib.ListN.{length, set, replicate, length-append}
-use lib.Dec.{ltb, eqb}
+use lib.ListN.{length, set, length-append}
+use lib.Dec.{eqb}
 use lib.IntN.{natAbs}
 use borrow.Author.Tests.{lt-ltb, le-ltb}
 use Rattle.engine.specs.Given.{filled}
 use Rattle.engine.specs.GivenLaws.{filled-more}
 use Rattle.engine.specs.Registers.{noModifier}
-use Rattle.engine.specs.Checks.{firstOf}
 use Rattle.engine.specs.ShapeCheck.{checkShape}
-use Rattle.engine.specs.declared.check.Why.the-variants.{Because}
-use Rattle.codec.specs.declared.refusal.Refusal.the-variants.{TooMany}
+use Rattle.engine.specs.ShapeLaws.{many-refused}
 use Rattle.engine.specs.declared.stream.Modifier.{Modifier}
 use Rattle.translator.specs.Fields.{termOf}
 use Rattle.translator.specs.NestSheets.{modifierOf, modifiersAt, modifiersFrom, modifiersOf, shapeOf}
@@ -116,20 +114,11 @@ kept-more xs h = kept-on-over xs noneKept (omega arith) (omega arith)
 
 -- ---- the shape
 
-or-true : (b : Bool) → (b || true) ≡ true
-or-true true = refl
-or-true false = refl
-
--- more than eight are refused, whatever else
-many-refused : (m : Nest) (k : Kept) → 8 < k .count → checkShape (shapeWith m k) ≡ Because TooMany
-unfolding checkShape firstOf
-many-refused m k h = rw (lt-ltb 8 (k .count) h, or-true (ltb 7 (m .loops)))
-
 pub kept-shape : (m : Nest) → checkShape (keptShape m) ≡ checkShape (shapeOf m)
 kept-shape m = by (decLt 8 (length (modifiersOf m)))
   where
     by : Dec (8 < length (modifiersOf m)) → checkShape (keptShape m) ≡ checkShape (shapeOf m)
     by (yes h) =
-        many-refused m (keepAll (modifiersOf m) noneKept) (rw (kept-more (modifiersOf m) h) (omega arith))
-        ∙ sym (many-refused m (keptOf (modifiersOf m)) h)
+        many-refused (shapeWith m (keepAll (modifiersOf m) noneKept)) (rw (kept-more (modifiersOf m) h) (omega arith))
+        ∙ sym (many-refused (shapeWith m (keptOf (modifiersOf m))) h)
     by (no h) = ap (λ k. checkShape (shapeWith m k)) (kept-all (modifiersOf m) (omega arith))

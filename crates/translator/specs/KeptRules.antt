@@ -13,6 +13,7 @@ use native.Mathlib.Decide.{decLt}
 use lib.ListN.{getD, drop}
 use lib.Dec.{ltb}
 use borrow.Author.Tests.{ltb-true, ltb-false, lt-ltb, le-ltb}
+use Rattle.codec.specs.TestLaws.{never, or-false}
 use Rattle.codec.specs.declared.refusal.Refusal.{Refusal}
 use Rattle.codec.specs.declared.refusal.Refusal.the-variants.{TooMany, LowHigh, Product}
 use Rattle.engine.specs.Rules.{lastIndex, product}
@@ -22,12 +23,11 @@ use Rattle.engine.specs.Good.{Ranged}
 use Rattle.engine.specs.Good
 use Rattle.engine.specs.ShapeCheck.{checkShape}
 use Rattle.engine.specs.ShapeLaws.{shape-passed}
-use Rattle.engine.specs.CalculationLaws.{never, or-false}
 use Rattle.engine.specs.declared.check.Why.the-variants.{Nothing, Because}
 use Rattle.translator.specs.NestRules.{nonzeroOf, highsFrom, highsOf, lastsOutside, highOf, lessOf, lowOrHighFrom, lowOrHigh, checksOf}
 use Rattle.translator.specs.Acceptance.{Accepted, LowHighKept, Breaks, many, low-high, large}
 use Rattle.translator.specs.declared.nest.Nest.{Nest}
-use Rattle.translator.specs.RuleLaws.{lastsFrom, shape-ranged, checks-shape}
+use Rattle.translator.specs.RuleLaws.{lastsFrom, shape-ranged, rules-first, checks-shape}
 use Rattle.translator.specs.Nests.{couplingOf}
 use Rattle.translator.specs.NestSheets.{shapeOf}
 
@@ -107,8 +107,7 @@ AllKept m = (nonzeroOf m ≤ 8) × LowHighKept m × (product (highsOf m) ≤ 104
 
 -- then no rule refuses the nest
 kept-clear : (m : Nest) → AllKept m → firstOf (checksOf m) ≡ Nothing
-unfolding firstOf
-kept-clear m h = rw (le-ltb 8 (nonzeroOf m) (h .0), low-high-kept m .1 (h .1), le-ltb 1048576 (product (highsOf m)) (h .2))
+kept-clear m h = rules-first m ∙ rw (le-ltb 8 (nonzeroOf m) (h .0), low-high-kept m .1 (h .1), le-ltb 1048576 (product (highsOf m)) (h .2))
 
 -- the rule of 8 refuses what it does not keep
 not-kept : (m : Nest) → ¬ LowHighKept m → lowOrHigh m ≡ true
@@ -120,10 +119,9 @@ not-kept m h = go (lowOrHigh m) refl
 
 -- a rule that is broken refuses the nest
 broken-first : (m : Nest) (x : Refusal) → Breaks m x → firstOf (checksOf m) ≡ Because x
-unfolding firstOf
-broken-first m x (many e h) = rw (lt-ltb 8 (nonzeroOf m) h, e)
-broken-first m x (low-high e h k) = rw (le-ltb 8 (nonzeroOf m) h, not-kept m k, e)
-broken-first m x (large e h k l) = rw (le-ltb 8 (nonzeroOf m) h, low-high-kept m .1 k, lt-ltb 1048576 (product (highsOf m)) l, e)
+broken-first m x (many e h) = rules-first m ∙ rw (lt-ltb 8 (nonzeroOf m) h, e)
+broken-first m x (low-high e h k) = rules-first m ∙ rw (le-ltb 8 (nonzeroOf m) h, not-kept m k, e)
+broken-first m x (large e h k l) = rules-first m ∙ rw (le-ltb 8 (nonzeroOf m) h, low-high-kept m .1 k, lt-ltb 1048576 (product (highsOf m)) l, e)
 
 -- all are kept, or one is the first that is broken
 kept-or-broken : (m : Nest) → AllKept m ⊎ ((x : Refusal) × Breaks m x)

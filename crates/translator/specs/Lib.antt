@@ -22,8 +22,6 @@ pub mod Promise3
 pub mod DescriptorLaws
 pub mod PlainLaws
 pub mod ChunkedLaws
-pub mod ByteLaws
-pub mod GivingLaws
 pub mod PatternLaws
 pub mod NestStreams
 pub mod StartLaws

@@ -22,7 +22,7 @@ use Rattle.codec.specs.declared.operation.Behaviour.{Behaviour}
 use Rattle.codec.specs.declared.operation.Behaviour.the-variants.{Add, Subtract}
 use Rattle.engine.specs.Loops
 use Rattle.engine.specs.Rules.{sameBehaviour}
-use Rattle.engine.specs.Gains.{gainOf, gain}
+use Rattle.engine.specs.Gains.{gainOf, gain, gainOf-on, gain-empty, gain-more, gain-append}
 use Rattle.engine.specs.Registers.{noModifier}
 use Rattle.engine.specs.declared.stream.Modifier.{Modifier}
 use Rattle.translator.specs.Fields.{termOf}
@@ -51,8 +51,9 @@ module _ (m : Nest) (b : Behaviour) (d : ℕ) (outer : List ℕ) where
 
   -- the modifier of a term does what the term does
   modifier-does : (o t : ℕ) → gainOf Size b d outer (modifierOf m o t) ≡ does o t
-  unfolding gainOf
-  modifier-does o t = ap (λ k. cond (eqb t d) k 0) (behaved b (termOf m t o) (getD outer (o - suc d) 0))
+  modifier-does o t =
+      gainOf-on Size b d outer (modifierOf m o t) refl
+      ∙ ap (λ k. cond (eqb t d) k 0) (behaved b (termOf m t o) (getD outer (o - suc d) 0))
 
   -- a term of 0 does nothing
   none-does : (c : Behaviour) (z : ℤ) (k : ℕ) (t : Bool) → natAbs z ≡ 0 → cond t (amountOf c z * k) 0 ≡ 0
@@ -63,7 +64,7 @@ module _ (m : Nest) (b : Behaviour) (d : ℕ) (outer : List ℕ) where
 
   -- one target more
   at-step : (o t n : ℕ) → gain Size b d outer (modifiersAt m o t (suc n)) ≡ does o t + gain Size b d outer (modifiersAt m o (suc t) n)
-  unfolding gain modifiersAt
+  unfolding modifiersAt
   at-step o t n = go (eqb (natAbs (termOf m t o)) 0) refl
     where
       go : (z : Bool) → eqb (natAbs (termOf m t o)) 0 ≡ z
@@ -71,12 +72,14 @@ module _ (m : Nest) (b : Behaviour) (d : ℕ) (outer : List ℕ) where
           ≡ does o t + gain Size b d outer (modifiersAt m o (suc t) n)
       go true e =
           omega (arith, none-does b (termOf m t o) (getD outer (o - suc d) 0) (eqb t d) (eqb-true (natAbs (termOf m t o)) 0 e))
-      go false e = ap (λ k. k + gain Size b d outer (modifiersAt m o (suc t) n)) (modifier-does o t)
+      go false e =
+          gain-more Size b d outer (modifierOf m o t) (modifiersAt m o (suc t) n)
+          ∙ ap (λ k. k + gain Size b d outer (modifiersAt m o (suc t) n)) (modifier-does o t)
 
   -- those that loop o owns: nothing to a loop that is not among their targets
   at-others : (o t n : ℕ) → ((k : ℕ) → t ≤ k → k < t + n → k ≡ d → ⊥) → gain Size b d outer (modifiersAt m o t n) ≡ 0
-  unfolding gain modifiersAt
-  at-others o t zero h = refl
+  unfolding modifiersAt
+  at-others o t zero h = gain-empty Size b d outer
   at-others o t (suc n) h =
       at-step o t n ∙ rw (ne-eqb t d (h t (omega arith) (omega arith)), at-others o (suc t) n (λ k p q. h k (omega arith) (omega arith)))
 
@@ -94,35 +97,29 @@ module _ (m : Nest) (b : Behaviour) (d : ℕ) (outer : List ℕ) where
           ap (λ k. amountOf b (termOf m k o) * getD outer (o - suc d) 0) e in
           rw (eq-eqb t d e, at-others o (suc t) n (λ k p q r. omega arith)) (omega arith)
 
-  -- modifiers joined
-  gain-append : (xs ys : List Modifier) → gain Size b d outer (xs ++ ys) ≡ gain Size b d outer xs + gain Size b d outer ys
-  unfolding gain
-  gain-append [] ys = omega arith
-  gain-append (x ∷ xs) ys = omega (arith, gain-append xs ys)
-
   -- those of the loops from o on, outside loop d
   from-outside : (ks : List ℕ) (o : ℕ) → d < o → drop (o - suc d) outer ≡ ks
       → gain Size b d outer (modifiersFrom m o (length ks)) ≡ total (amountOf b) m d o ks
-  unfolding gain modifiersFrom total
-  from-outside [] o h e = refl
+  unfolding modifiersFrom total
+  from-outside [] o h e = gain-empty Size b d outer
   from-outside (k ∷ ks) o h e =
       let i : o - suc d + 1 ≡ suc o - suc d = omega arith in
       let j : o - suc d ≡ o - suc d + 0 = omega arith in
       let now : getD outer (o - suc d) 0 ≡ k = ap (λ j. getD outer j 0) j ∙ sym (getD-drop (o - suc d) outer 0 0) ∙ ap (λ l. getD l 0 0) e in
       let rest : drop (suc o - suc d) outer ≡ ks = ap (λ j. drop j outer) (sym i) ∙ sym (drop-drop 1 (o - suc d) outer) ∙ ap (drop 1) e in
-      gain-append (modifiersAt m o 0 o) (modifiersFrom m (suc o) (length ks))
+      gain-append Size b d outer (modifiersAt m o 0 o) (modifiersFrom m (suc o) (length ks))
       ∙ rw (at-target o 0 o (omega arith) (omega arith), now, from-outside ks (suc o) (omega arith) rest)
 
   -- those of loop d and of the loops inside it do nothing
   from-inside : (g o n k : ℕ) → o + g ≡ suc d → n ≡ g + k → gain Size b d outer (modifiersFrom m o n) ≡ gain Size b d outer (modifiersFrom m (suc d) k)
-  unfolding gain modifiersFrom
+  unfolding modifiersFrom
   from-inside zero o n k e f =
       let x : o ≡ suc d = omega arith in
       let y : n ≡ k = omega arith in
       rw (x, y)
   from-inside (suc g) o zero k e f = absurd (omega arith)
   from-inside (suc g) o (suc n) k e f =
-      gain-append (modifiersAt m o 0 o) (modifiersFrom m (suc o) n)
+      gain-append Size b d outer (modifiersAt m o 0 o) (modifiersFrom m (suc o) n)
       ∙ rw (at-others o 0 o (λ k p q r. omega arith), from-inside g (suc o) n k (omega arith) (omega arith)) (omega arith)
 
 -- what the modifiers do to a loop is what its terms do

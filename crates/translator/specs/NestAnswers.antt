@@ -4,26 +4,23 @@
 --   read-ranged              a nest that was read is in range and tidy
 --   done-accepted            one that is not refused is accepted
 use Prim.Native.Nat.{ℕ, _≤_, _<_}
-use mathlib.Core.Path.{_≡_, refl, sym, _∙_, ap, subst}
+use mathlib.Core.Path.{_≡_, refl, sym, _∙_, subst}
 use mathlib.Core.Logic.{_⊎_, inl, inr}
 use mathlib.Core.List.{List}
-use mathlib.Core.Bool.{Bool, true, false, cond}
+use mathlib.Core.Bool.{true, false}
 use native.Mathlib.Omega.{arith}
 use lib.ListN.{length}
 use borrow.Author.Tests.{lt-ltb, le-ltb}
 use Rattle.codec.specs.NumberLaws.{areBytes}
 use Rattle.codec.specs.declared.refusal.Refusal.{Refusal}
 use Rattle.codec.specs.declared.refusal.Refusal.the-variants.{OutOfRange}
-use Rattle.engine.specs.Checks.{firstOf}
 use Rattle.engine.specs.ShapeCheck.{checkShape}
 use Rattle.engine.specs.declared.check.Why.{Why}
 use Rattle.engine.specs.declared.run.Verdict.{Verdict}
 use Rattle.engine.specs.declared.run.Verdict.the-variants.{Done, Refused}
 use Rattle.translator.specs.Fields.{Field, headFields, restFields, noNest}
-use Rattle.translator.specs.NestRules.{checksOf}
-use Rattle.translator.specs.Reading.{Read, upTo, readFrom, onRead, Nested, nest, refused, unless, wholeAt, nestAt, nestedOf}
-use Rattle.translator.specs.Reading
-use Rattle.translator.specs.Acceptance.{InRange, Tidy, Accepted, Stand, AtFault}
+use Rattle.translator.specs.Reading.{upTo, readFrom, onRead, Nested, refused, unless, wholeAt, nestAt, nestedOf}
+use Rattle.translator.specs.Acceptance.{InRange, Tidy, Stand, AtFault}
 use Rattle.translator.specs.NestStands.{stood}
 use Rattle.translator.specs.NestingLaws.{read-through, read-fault, read-either}
 use Rattle.translator.specs.RuleLaws.{checks-shape}

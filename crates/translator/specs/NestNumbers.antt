@@ -1,23 +1,21 @@
 -- Numbers that stand one behind the other, and the nest that they give.
 --
---   stands-front, stands-back  bytes that stand in two parts
 --   stand-append, stand-cut    two lists of numbers
 --   stand-sized, stand-based, stand-kept   what they leave as it was
 --   stand-bytes, stand-holds   the nest's own numbers stand there, each in its range
 --   copied                     a nest's numbers put into another
 --   copied-stands              a nest's own numbers, where they stand
 --   copied-kept, copied-there  what they leave, and what they give
-use Prim.Native.Nat.{ℕ, _+_, _-_, _≤_, _<_}
+use Prim.Native.Nat.{ℕ, _+_, _≤_, _<_}
 use mathlib.Core.Path.{_≡_, refl, sym, _∙_, ap, subst}
-use mathlib.Core.List.{List, [], _∷_, _++_, append-assoc}
+use mathlib.Core.List.{List, [], _∷_, _++_}
 use native.Mathlib.Omega.{arith}
-use lib.ListN.{length, take, drop, length-append}
-use lib.Seq.{drop-at, take-append-seam}
+use lib.ListN.{length}
 use lib.IntN.{ℤ, pos, negsuc, natAbs}
 use lib.Signed.{mag}
 use Rattle.codec.specs.Numbers.{numberBytes, signedOf}
 use Rattle.codec.specs.NumberLaws.{Stands, stands-join, signed-range}
-use Rattle.engine.specs.FieldLaws.{stands-split}
+use Rattle.codec.specs.StandingLaws.{stands-none, stands-front, stands-back}
 use Rattle.engine.specs.Promise1.{NumberAt}
 use Rattle.translator.specs.Fields.{Role, Field, width, loops, coupled, operation, count, term, base, stride, rangeOf, Holds, accessOf, put, numberIn}
 use Rattle.translator.specs.FieldLists.{All}
@@ -27,36 +25,6 @@ use Rattle.translator.specs.FieldPlaces.{Fresh, Apart}
 use Rattle.translator.specs.Reading.{numbersBytes}
 use Rattle.translator.specs.Acceptance.{Stand}
 use Rattle.translator.specs.declared.nest.Nest.{Nest}
-
--- ---- bytes in a sheet
-
--- no byte stands anywhere
-stands-none : (s : List ℕ) (at : ℕ) → at ≤ length s → Stands s at [] at
-stands-none s at h = let z : at - at ≡ 0 = omega arith in record { bytes = rw z; behind = omega arith; within = h }
-
--- bytes between what is before and what is behind them
-stands-between : (s pre l post : List ℕ) (at to : ℕ) → s ≡ pre ++ (l ++ post) → length pre ≡ at → to ≡ at + length l → Stands s at l to
-stands-between s pre l post at to e f g =
-    let z : to - at ≡ length l = omega arith in
-    record {
-      bytes = rw (z, e, drop-at pre (l ++ post) at f, take-append-seam l post);
-      behind = g;
-      within = rw e (omega (arith, length-append pre (l ++ post), length-append l post));
-    }
-
--- what stands as one stands side by side: the first part
-pub stands-front : (s l k : List ℕ) (at to : ℕ) → Stands s at (l ++ k) to → Stands s at l (at + length l)
-stands-front s l k at to h =
-    let q = stands-split h in
-    stands-between s (take at s) l (k ++ drop to s) at (at + length l) (q .0 ∙ simp append-assoc) (q .1) refl
-
--- the second part
-pub stands-back : (s l k : List ℕ) (at to : ℕ) → Stands s at (l ++ k) to → Stands s (at + length l) k to
-stands-back s l k at to h =
-    let q = stands-split h in
-    stands-between s (take at s ++ l) k (drop to s) (at + length l) to (q .0 ∙ simp append-assoc)
-    (omega (arith, length-append (take at s) l, q .1))
-    (omega (arith, length-append l k, h .behind))
 
 -- ---- from the bytes to the nest
 

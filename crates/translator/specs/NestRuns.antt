@@ -1,13 +1,13 @@
 -- Nests translated and run, computed from the definitions: the plain loop's memory.
 --
 --   runs, runThree
-use Prim.Native.Nat.{ℕ, zero, suc, _+_, _*_, _%_}
+use Prim.Native.Nat.{ℕ, zero, suc, _*_, _%_}
 use mathlib.Core.Path.{_≡_, refl}
 use mathlib.Core.List.{List, [], _∷_, _++_}
 use lib.ListN.{take}
 use Rattle.codec.specs.Numbers.{groupsAt, numberAt, signedOf, groupsOf}
 use Rattle.codec.specs.Headers.{headerSaid, headerOf, wordOf}
-use Rattle.codec.specs.Operations.{openAt, dimensionAt, modifierAt, endAt, runAt, operationAt, calculationAt, operationBytes, calculationBytes}
+use Rattle.codec.specs.Operations.{openAt, dimensionAt, modifierAt, endAt, runAt, operationAt, calculationAt, operationBytes, calculationBytes, bytesOfAll}
 use Rattle.engine.specs.Loops.{sizeAt, added, span, loops, elements}
 use Rattle.engine.specs.Chunks.{passes, withElements, groups, leftAfter, chunkOf, differ, height}
 use Rattle.engine.specs.Rules.{only, highs, product}
@@ -27,7 +27,7 @@ use Rattle.translator.specs.Nests.{termsAt, countAt, visits, placeUpTo, 
 use Rattle.translator.specs.NestRules.{nonzeroFor, nonzeroFrom, total, highsFrom, lowOrHighFrom}
 use Rattle.translator.specs.Reading.{Nested, nest, refused, nestAt}
 use Rattle.translator.specs.Reading
-use Rattle.translator.specs.NestSheets.{modifiersAt, modifiersFrom, dimensionOps, bytesOfAll, sheetOf}
+use Rattle.translator.specs.NestSheets.{modifiersAt, modifiersFrom, dimensionOps, sheetOf}
 use Rattle.translator.specs.Translation.{runNest, Answered, done, refusal, asOutcome}
 use Rattle.translator.specs.Examples.{oneBytes, threeBytes, three, triangleBytes}
 

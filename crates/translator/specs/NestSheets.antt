@@ -4,14 +4,14 @@
 --   headerFor, dimensionOf, dimensionsFrom, streamOf   what is given for each register
 --   shapeOf, patternFor                          the descriptors that this comes to
 --   modifierOp, dimensionOps, streamOps, sheetOps, runOp, calculationOf   the sheet, operation by operation
---   bytesOfAll, sheetOf                          its bytes
+--   sheetOf                                      its bytes
 use Prim.Native.Nat.{ℕ, zero, suc}
 use mathlib.Core.List.{List, [], _∷_, _++_, map}
 use mathlib.Core.Bool.{cond}
 use lib.ListN.{length, getD, replicate}
 use lib.Dec.{eqb}
 use lib.IntN.{ℤ, pos, negsuc, natAbs}
-use Rattle.codec.specs.Operations.{operationBytes, calculationBytes}
+use Rattle.codec.specs.Operations.{operationBytes, bytesOfAll, calculationBytes}
 use Rattle.codec.specs.declared.header.Kind.{Kind}
 use Rattle.codec.specs.declared.header.Kind.the-variants.{Load, Store}
 use Rattle.codec.specs.declared.header.Header.{Header}
@@ -132,10 +132,6 @@ runOp = op.Run 1 1
 abbrev pub calculationOf : Nest → Calculation
 calculationOf m = record { action = m .action; destination = 3; first = 1; second = 2 }
 
--- operations as bytes, "header bits 19-15 and 23-22 zero"
-unfoldable pub bytesOfAll : List Operation → List ℕ
-bytesOfAll [] = []
-bytesOfAll (o ∷ os) = operationBytes 0 o ++ bytesOfAll os
-
+-- its bytes, "header bits 19-15 and 23-22 zero"
 unfoldable pub sheetOf : Nest → List ℕ
 sheetOf m = bytesOfAll (sheetOps m) ++ (operationBytes 0 runOp ++ calculationBytes (calculationOf m))

@@ -18,7 +18,7 @@ use Rattle.codec.specs.NumberLaws.{Stands, signed-unsigned}
 use Rattle.codec.specs.declared.amounts.Elements.{Elements}
 use Rattle.engine.specs.AllowedLaws.{test-plain, nonneg-plain}
 use Rattle.engine.specs.Addresses.{noElements}
-use Rattle.translator.specs.Fields.{Role, first, second, destination, termPlace, Field, width, loops, coupled, operation, count, term, base, stride, headFields, restFields, fieldsOf, rangeOf, Holds, accessOf, termOf, noNest, put, numberIn}
+use Rattle.translator.specs.Fields.{Role, first, second, destination, termPlace, Field, width, loops, coupled, operation, count, term, stride, headFields, restFields, fieldsOf, rangeOf, Holds, accessOf, termOf, noNest, put, numberIn}
 use Rattle.translator.specs.FieldLists.{All, EachField, OfAccess, all-rest}
 use Rattle.translator.specs.PlaceLaws.{place, put-sized, Sized, strideNumber}
 use Rattle.translator.specs.SameNests.{Based, Long, signed-same, sized-long}

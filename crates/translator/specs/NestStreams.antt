@@ -35,7 +35,7 @@ use Rattle.translator.specs.KeptRules.{low-high-kept}
 use Rattle.translator.specs.RuleLaws.{highs-same, low-high-same}
 use Rattle.translator.specs.DescriptorLaws.{couples}
 use Rattle.translator.specs.PatternLaws.{dimensions-long, TidyAccess, pattern-same}
-use Rattle.translator.specs.GivingLaws.{Offers, Gives, gives-first, gives-append}
+use Rattle.engine.specs.GivingLaws.{Offers, Gives, gives-first, gives-append}
 use Rattle.translator.specs.declared.nest.Access.{Access}
 use Rattle.translator.specs.declared.nest.Nest.{Nest}
 

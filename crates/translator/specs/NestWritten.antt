@@ -14,6 +14,7 @@ use lib.Dec.{leb}
 use lib.IntN.{pos, natAbs}
 use lib.Signed.{_≤ℤ_, pos-natAbs, yes-nonNeg}
 use borrow.Author.Tests.{leb-true}
+use Rattle.codec.specs.StandingLaws.{stands-front, stands-back}
 use Rattle.codec.specs.Numbers.{numberBytes, unsignedOf}
 use Rattle.codec.specs.NumberLaws.{Stands, signed-unsigned}
 use Rattle.codec.specs.Headers.{widthCode}
@@ -29,7 +30,7 @@ use Rattle.translator.specs.FieldLists.{All, EachField, OfAccess, all-re
 use Rattle.translator.specs.PlaceLaws.{place, strideNumber}
 use Rattle.translator.specs.SameNests.{Based, Long, Proper, sized-long, nests-same}
 use Rattle.translator.specs.FieldPlaces.{Fresh, fields-apart, fields-fit, count-fresh, term-fresh, stride-fresh, loops-fresh}
-use Rattle.translator.specs.NestNumbers.{stands-front, stands-back, stand-cut, holds-small, stand-sized, stand-based, stand-kept, copied, copied-stands, copied-kept, copied-there}
+use Rattle.translator.specs.NestNumbers.{stand-cut, holds-small, stand-sized, stand-based, stand-kept, copied, copied-stands, copied-kept, copied-there}
 use Rattle.translator.specs.Reading.{numbersBytes, nestBytes}
 use Rattle.translator.specs.Acceptance.{AccessInRange, InRange, Tidy, Stand}
 use Rattle.translator.specs.declared.nest.Access.{Access}

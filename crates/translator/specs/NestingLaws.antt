@@ -2,33 +2,31 @@
 --
 --   holds-plain                          the range of a number, as a test
 --   read-through, read-fault, read-either   numbers read one by one: all of them, or the refusal of the first fault
---   all-stand                            bytes that are a list stand from the first to the last
 --   accepted-read, refused-read          an accepted nest is read from its bytes; the refusals are given
 --   Answer, nest-answer                  every list of bytes is an accepted nest, or has its refusal
-use Prim.Native.Nat.{ℕ, _-_, _<_}
+use Prim.Native.Nat.{ℕ, _<_}
 use mathlib.Core.Path.{_≡_, refl, sym, _∙_, ap, subst}
 use mathlib.Core.Logic.{_⊎_, inl, inr, _↔_}
 use mathlib.Core.List.{List, [], _∷_}
 use mathlib.Core.Bool.{Bool, true, false}
 use native.Mathlib.Omega.{arith}
 use native.Mathlib.Decide.{decLt}
-use lib.ListN.{length, take}
-use lib.Seq.{take-length}
+use lib.ListN.{length}
 use lib.Dec.{leb}
 use lib.IntN.{natAbs}
 use borrow.Author.Tests.{lt-ltb, le-ltb}
+use Rattle.codec.specs.TestLaws.{never}
 use Rattle.codec.specs.Numbers.{numberAt, signedOf}
 use Rattle.codec.specs.NumberLaws.{areBytes, Stands}
+use Rattle.codec.specs.StandingLaws.{stands-all, all-stand}
 use Rattle.codec.specs.declared.number.Number.{Number}
 use Rattle.codec.specs.declared.number.Number.the-variants.{Value, NoNumber}
 use Rattle.codec.specs.declared.refusal.Refusal.{Refusal}
 use Rattle.codec.specs.declared.refusal.Refusal.the-variants.{BadNumber, OutOfRange}
 use Rattle.engine.specs.Promise1.{NumberAt}
 use Rattle.engine.specs.Checks.{firstOf}
-use Rattle.engine.specs.CalculationLaws.{never}
 use Rattle.engine.specs.AllowedLaws.{fails, leb-plain, and-plain}
 use Rattle.engine.specs.FieldLaws.{number-there, there-number, no-number}
-use Rattle.engine.specs.StandLaws.{stands-all}
 use Rattle.engine.specs.declared.check.Why.{Why}
 use Rattle.engine.specs.declared.check.Why.the-variants.{Nothing, Because}
 use Rattle.translator.specs.Fields.{Field, headFields, restFields, Range, between, reach, rangeOf, holds, Holds, noNest, put}
@@ -36,7 +34,7 @@ use Rattle.translator.specs.NestRules.{checksOf}
 use Rattle.translator.specs.KeptRules.{rules-kept, rules-broken}
 use Rattle.translator.specs.NestStands.{stood}
 use Rattle.translator.specs.NestWritten.{standing}
-use Rattle.translator.specs.Reading.{Read, upTo, readFrom, nest, unless, wholeAt, nestAt, nestBytes}
+use Rattle.translator.specs.Reading.{upTo, readFrom, nest, unless, wholeAt, nestAt, nestBytes}
 use Rattle.translator.specs.Reading
 use Rattle.translator.specs.Acceptance.{InRange, Tidy, Accepted, Stand, Fault, AtFault, Refuses}
 use Rattle.translator.specs.declared.nest.Nest.{Nest}
@@ -98,12 +96,6 @@ nest-through s mid to k n h l = rw (read-through s headFields 0 mid noNest k h, 
 -- a nest in range and tidy is read where its bytes stand
 nest-read : (s : List ℕ) (to : ℕ) (n : Nest) → InRange n → Tidy n → Stands s 0 (nestBytes n) to → nestAt s ≡ wholeAt s n to
 nest-read s to n r d h = let q = standing s to n r d h in nest-through s (q .0) to (q .1) n (q .2) (q .3)
-
--- bytes that are a list stand from the first to the last
-pub all-stand : (s l : List ℕ) → s ≡ l → Stands s 0 l (length s)
-all-stand s l e =
-    let z : length s - 0 ≡ length s = omega arith in
-    record { bytes = ap (λ n. take n s) z ∙ take-length s ∙ e; behind = omega (arith, ap length e); within = omega arith }
 
 -- with nothing behind it
 nest-whole : (s : List ℕ) (n : Nest) → InRange n → Tidy n → s ≡ nestBytes n → nestAt s ≡ unless (firstOf (checksOf n)) n

@@ -4,12 +4,11 @@
 --   terms-next, terms-end            the modifiers of one dimension, term by term
 --   dimensions-next, dimensions-end  the dimensions, one by one
 --   stream-put, sheet-put            a stream, and all three with the run
-use Prim.Native.Nat.{ℕ, zero, suc, _+_, _-_, _*_, _≤_, _<_}
-use mathlib.Core.Path.{_≡_, refl, sym, _∙_, ap}
-use mathlib.Core.List.{List, [], _∷_, _++_, map, append-assoc, append-nil}
+use Prim.Native.Nat.{ℕ, suc, _+_, _-_, _≤_, _<_}
+use mathlib.Core.Path.{_≡_, refl, _∙_, ap}
+use mathlib.Core.List.{List, [], _∷_, _++_, map}
 use mathlib.Core.Bool.{Bool, true, false, cond}
 use native.Mathlib.Omega.{arith}
-use lib.ListN.{length}
 use lib.Dec.{eqb}
 use lib.IntN.{natAbs}
 use Rattle.codec.specs.declared.header.Kind.{Kind}
@@ -18,7 +17,7 @@ use Rattle.codec.specs.declared.operation.Operation.{Operation}
 use Rattle.codec.specs.declared.operation.Operation.the-variants as op
 use Rattle.engine.specs.declared.stream.Modifier.{Modifier}
 use Rattle.translator.specs.Fields.{termOf}
-use Rattle.translator.specs.NestSheets.{modifierOf, modifiersAt, modifierOp, headerFor, dimensionOf, dimensionOps, streamOps, sheetOps, runOp, calculationOf}
+use Rattle.translator.specs.NestSheets.{modifierOf, modifiersAt, modifierOp, headerFor, dimensionOf, dimensionOps, streamOps, sheetOps, runOp}
 use Rattle.translator.specs.Pages.{putOne, putAll}
 use Rattle.translator.specs.declared.nest.Access.{Access}
 use Rattle.translator.specs.declared.nest.Nest.{Nest}

@@ -20,13 +20,12 @@ use Rattle.codec.specs.Operations.{field, signedField, isReach}
 use Rattle.codec.specs.declared.number.Cursor.{Cursor}
 use Rattle.codec.specs.declared.number.Number.{Number}
 use Rattle.codec.specs.declared.number.Number.the-variants.{Value, NoNumber}
-use Rattle.codec.specs.declared.number.Signed.{Signed}
 use Rattle.codec.specs.declared.number.Signed.the-variants.{Whole, NoWhole}
 use Rattle.codec.specs.declared.refusal.Refusal.{Refusal}
 use Rattle.codec.specs.declared.refusal.Refusal.the-variants.{BadNumber, OutOfRange}
 use Rattle.engine.specs.declared.run.Verdict.{Verdict}
 use Rattle.engine.specs.declared.run.Verdict.the-variants.{Done, Refused}
-use Rattle.translator.specs.Fields.{Role, first, second, destination, Field, count, term, base, stride, termFields, loopFields, strideFields, accessFields, between, rangeOf, holds, put, accessOf, withAccess, withBase, withStride}
+use Rattle.translator.specs.Fields.{Role, first, second, destination, Field, count, termFields, loopFields, strideFields, accessFields, between, rangeOf, holds, put, accessOf, withAccess, withBase, withStride}
 use Rattle.translator.specs.Reading.{Read, upTo, refused, readFrom, onRead}
 use Rattle.translator.specs.Parts.{isRefused, readOf, partOf, accessRead, sideOf, withTerm, ReadAccess, got, not, stridesAt, accessAt}
 use Rattle.translator.specs.declared.nest.Access.{Access}

@@ -16,6 +16,7 @@ use Rattle.codec.specs.declared.operation.Dimension.{Dimension}
 use Rattle.engine.specs.Addresses.{noBytes, noElements}
 use Rattle.engine.specs.Registers.{noModifier}
 use Rattle.engine.specs.Members.{getD-past}
+use Rattle.engine.specs.GoodLaws.{all-same}
 use Rattle.engine.specs.Given.{filled, patternOf}
 use Rattle.translator.specs.Fields.{Role, first, second, destination, accessOf}
 use Rattle.translator.specs.Nests.{couplingOf}
@@ -23,12 +24,6 @@ use Rattle.translator.specs.NestSheets.{modifiersOf, dimensionOf, dimens
 use Rattle.translator.specs.Acceptance.{AccessInRange, Accepted}
 use Rattle.translator.specs.declared.nest.Access.{Access}
 use Rattle.translator.specs.declared.nest.Nest.{Nest}
-
--- an array of one value
-getD-same : {A : Type 0} (n k : ℕ) (z : A) → getD (replicate n z) k z ≡ z
-getD-same zero k z = refl
-getD-same (suc n) zero z = refl
-getD-same (suc n) (suc k) z = getD-same n k z
 
 -- an array of seven that holds a list in front, and nothing behind
 filled-is : {A : Type 0} (z : A) (xs ys : List A) (n : ℕ) → length xs ≡ n → n ≤ 7 → length ys ≡ 7 → ((k : ℕ) → k < n → getD xs k z ≡ getD ys k z)
@@ -40,7 +35,7 @@ filled-is z xs ys n e h l front behind =
   where
     go : (k : ℕ) → Dec (k < n) → getD (filled 7 z xs) k z ≡ getD ys k z
     go k (yes q) = List·getD-append xs (replicate (7 - length xs) z) z k (omega arith) ∙ front k q
-    go k (no q) = getD-past z xs (replicate (7 - length xs) z) k (omega arith) ∙ getD-same (7 - length xs) (k - length xs) z ∙ sym (behind k (omega arith))
+    go k (no q) = getD-past z xs (replicate (7 - length xs) z) k (omega arith) ∙ all-same (7 - length xs) (k - length xs) z ∙ sym (behind k (omega arith))
 
 module _ (m : Nest) (i : ℕ) (a : Access) where
   -- as many dimensions as there are loops
@@ -91,6 +86,6 @@ pattern-same m ac i kind a t =
         coupling = couplingOf (m .coupled);
       };
       base = a .base;
-      offsets = field-is m i a noBytes (λ d. d .offset) (replicate 7 noBytes) h refl (λ k. sym (getD-same 7 k noBytes)) (λ k b. getD-same 7 k noBytes) j;
+      offsets = field-is m i a noBytes (λ d. d .offset) (replicate 7 noBytes) h refl (λ k. sym (all-same 7 k noBytes)) (λ k b. all-same 7 k noBytes) j;
       strides = field-is m i a noElements (λ d. d .stride) (a .strides) h (t .long) (λ k. refl) (t .behind) j;
     }

@@ -6,17 +6,20 @@
 --   put-parts                    to put a number in changes what stands at its place, and nothing else
 --   Sized, Fits, put-sized       parts of the right lengths, a number that has a place
 --   number-put, number-kept      the number that was put in; any other number
-use Prim.Native.Nat.{ℕ, zero, suc, _+_, _*_, _≤_, _<_}
+use Prim.Native.Nat.{ℕ, zero, suc, _+_, _*_, _<_}
 use mathlib.Core.Path.{_≡_, refl, sym, _∙_, ap}
 use mathlib.Core.List.{List, [], _∷_, map}
 use native.Mathlib.Omega.{arith}
 use lib.ListN.{length, getD, set, length-set, List·getD-map}
 use lib.Seq.{getD-set-same, getD-set-other}
 use lib.IntN.{ℤ, pos, natAbs}
+use borrow.Author.Tests.{le-leb}
 use Rattle.codec.specs.Numbers.{signedOf, unsignedOf}
 use Rattle.codec.specs.NumberLaws.{unsigned-signed}
-use Rattle.codec.specs.Headers.{widthCoded, widthCode}
-use Rattle.codec.specs.Operations.{actionCoded, actionCode}
+use Rattle.codec.specs.Headers.{widthCode}
+use Rattle.codec.specs.HeaderLaws.{width-there}
+use Rattle.codec.specs.Operations.{actionCode}
+use Rattle.codec.specs.OperationLaws.{action-there}
 use Rattle.codec.specs.declared.amounts.Elements.{Elements}
 use Rattle.engine.specs.Addresses.{noElements}
 use Rattle.translator.specs.Fields.{Role, first, second, destination, Field, width, loops, coupled, operation, count, term, base, stride, rangeOf, Holds, termPlace, put, numberIn}
@@ -107,24 +110,6 @@ map-set f [] i a = refl
 map-set f (x ∷ l) zero a = refl
 map-set f (x ∷ l) (suc i) a = ap (λ k. f x ∷ k) (map-set f l i a)
 
--- the code of a coded width
-width-coded : (n : ℕ) → n ≤ 3 → widthCode (widthCoded n) ≡ n
-width-coded zero h = refl
-width-coded (suc zero) h = refl
-width-coded (suc (suc zero)) h = refl
-width-coded (suc (suc (suc n))) h = omega arith
-
--- the code of a coded action
-action-coded : (n : ℕ) → n ≤ 7 → actionCode (actionCoded n) ≡ n
-action-coded zero h = refl
-action-coded (suc zero) h = refl
-action-coded (suc (suc zero)) h = refl
-action-coded (suc (suc (suc zero))) h = refl
-action-coded (suc (suc (suc (suc zero)))) h = refl
-action-coded (suc (suc (suc (suc (suc zero))))) h = refl
-action-coded (suc (suc (suc (suc (suc (suc zero)))))) h = refl
-action-coded (suc (suc (suc (suc (suc (suc (suc n))))))) h = omega arith
-
 -- a term put in, as a number
 terms-put : (ts : List ℤ) (i n : ℕ) → map unsignedOf (set ts i (signedOf n)) ≡ set (map unsignedOf ts) i n
 terms-put ts i n = map-set unsignedOf ts i (signedOf n) ∙ ap (set (map unsignedOf ts) i) (unsigned-signed n)
@@ -135,10 +120,10 @@ strides-put es i n = map-set strideNumber es i (record { 0 = signedOf n }) ∙ a
 
 -- to put a number in changes what stands at its place, and nothing else
 pub put-parts : (f : Field) (n : ℕ) (m : Nest) (D : ℕ) → Holds (rangeOf D f) n → partsOf (put f n m) ≡ setIn (partsOf m) (partOf f) (indexOf f) n
-put-parts width n m D h = ap (λ k. set (partsOf m) 0 (set (getD (partsOf m) 0 []) 0 k)) (width-coded n (h .1))
+put-parts width n m D h = ap (λ k. set (partsOf m) 0 (set (getD (partsOf m) 0 []) 0 k)) (width-there n (omega (arith, h .1)))
 put-parts loops n m D h = refl
 put-parts coupled n m D h = refl
-put-parts operation n m D h = ap (λ k. set (partsOf m) 0 (set (getD (partsOf m) 0 []) 3 k)) (action-coded n (h .1))
+put-parts operation n m D h = ap (λ k. set (partsOf m) 0 (set (getD (partsOf m) 0 []) 3 k)) (action-there n (le-leb n 7 (h .1)))
 put-parts (count t) n m D h = refl
 put-parts (term t o) n m D h = ap (set (partsOf m) 2) (terms-put (m .terms) (termPlace t o) n)
 put-parts (base first) n m D h = refl

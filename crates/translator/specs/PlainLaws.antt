@@ -4,7 +4,7 @@
 --   threeOf                        a nest's operation, width and patterns
 --   free, value-sets               elements that share no byte; a value apart from what was written
 --   one-chunk                      one chunk
-use Prim.Native.Nat.{ℕ, zero, suc, _+_, _-_, _*_, _≤_, _<_}
+use Prim.Native.Nat.{ℕ, zero, suc, _+_, _*_, _≤_, _<_}
 use mathlib.Core.Path.{_≡_, refl, sym, _∙_, ap, ap₂}
 use mathlib.Core.Logic.{_⊎_, inl, inr, ⊎-elim}
 use mathlib.Core.List.{List, [], _∷_, map}
@@ -24,7 +24,6 @@ use Rattle.engine.specs.Memory.{valueAt, littleEndian, spot, fetch, stored}
 use Rattle.engine.specs.ByteLaws.{length-little}
 use Rattle.engine.specs.Lanes.{lane, lanewise}
 use Rattle.engine.specs.InStep.{Three, chunkDone}
-use Rattle.engine.specs.InStep as step
 use Rattle.translator.specs.Nests.{widthOf, placeOf, visited, plainOver}
 use Rattle.translator.specs.NestSheets.{patternFor}
 use Rattle.translator.specs.Promise3.{Inside, Byte, Apart, NoneRead}

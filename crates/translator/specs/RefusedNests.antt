@@ -2,15 +2,13 @@
 --
 --   cutOff, outOfRange     1 and 2
 --   rules                  6, 8 and 9
-use Prim.Native.Nat.{ℕ, _+_}
+use Prim.Native.Nat.{ℕ}
 use mathlib.Core.Path.{_≡_, refl}
 use mathlib.Core.List.{List, [], _∷_, _++_}
 use lib.ListN.{take, replicate}
 use Rattle.codec.specs.Refusals.{numberOf}
 use Rattle.codec.specs.Numbers.{groupsAt, numberAt, signedOf}
-use Rattle.engine.specs.Loops.{loops}
 use Rattle.engine.specs.Rules.{product}
-use Rattle.engine.specs.Calculate.{given}
 use Rattle.engine.specs.Checks.{firstOf}
 use Rattle.translator.specs.Fields.{termFields, loopFields, strideFields}
 use Rattle.translator.specs.NestRules.{nonzeroFor, nonzeroFrom, total, highsFrom, lowOrHighFrom}

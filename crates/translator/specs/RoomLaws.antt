@@ -13,7 +13,7 @@ use lib.IntN.{natAbs}
 use Rattle.codec.specs.Numbers.{groupsOf, numberBytes, unsignedOf}
 use Rattle.codec.specs.NumberLaws.{last-group}
 use Rattle.codec.specs.Headers.{wordOf}
-use Rattle.codec.specs.Operations.{operationBytes, calculationBytes, behaviourCode, actionCode}
+use Rattle.codec.specs.Operations.{operationBytes, calculationBytes, behaviourCode, actionCode, bytesOfAll}
 use Rattle.codec.specs.declared.header.Kind.{Kind}
 use Rattle.codec.specs.declared.header.Kind.the-variants.{Load, Store}
 use Rattle.codec.specs.declared.operation.Behaviour.{Behaviour}
@@ -24,7 +24,7 @@ use Rattle.engine.specs.Addresses.{noElements}
 use Rattle.translator.specs.Fields.{termOf}
 use Rattle.translator.specs.NestRules.{nonzeroOf}
 use Rattle.translator.specs.ModifierLaws.{modifiers-count}
-use Rattle.translator.specs.NestSheets.{behaviourOf, modifierOf, modifiersAt, modifiersFrom, modifiersOf, headerFor, dimensionOf, modifierOp, dimensionOps, streamOps, sheetOps, runOp, calculationOf, bytesOfAll, sheetOf}
+use Rattle.translator.specs.NestSheets.{behaviourOf, modifierOf, modifiersAt, modifiersFrom, modifiersOf, headerFor, dimensionOf, modifierOp, dimensionOps, streamOps, sheetOps, runOp, calculationOf, sheetOf}
 use Rattle.translator.specs.NestWritten.{action-small}
 use Rattle.translator.specs.declared.nest.Access.{Access}
 use Rattle.translator.specs.declared.nest.Nest.{Nest}

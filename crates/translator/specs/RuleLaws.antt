@@ -3,6 +3,7 @@
 --   lastsFrom                    the last indices of loops
 --   highs-same, low-high-same    high, low and the rule of 8, of the nest's numbers and of its shape
 --   shape-ranged                 the shape of a nest in range that has at most eight nonzero terms
+--   rules-first                  the rules of a nest, in order
 --   checks-shape                 the rules of a nest in range are the checks of its shape
 use Prim.Native.Nat.{ℕ, zero, suc, _+_, _-_, _≤_, _<_}
 use mathlib.Core.Path.{_≡_, refl, sym, _∙_, ap}
@@ -14,7 +15,7 @@ use lib.ListN.{length, getD, replicate, length-append, length-replicate, length-
 use lib.Dec.{ltb}
 use lib.IntN.{subℕ}
 use lib.Signed.{nonNeg}
-use borrow.Author.Tests.{ltb-true, ltb-false, le-ltb}
+use borrow.Author.Tests.{ltb-true, ltb-false}
 use Rattle.codec.specs.declared.operation.Parameter.the-variants.{Size}
 use Rattle.codec.specs.declared.operation.Behaviour.the-variants.{Add, Subtract}
 use Rattle.codec.specs.declared.refusal.Refusal.the-variants.{TooMany, LowHigh, Product}
@@ -23,14 +24,17 @@ use Rattle.engine.specs.Rules
 use Rattle.engine.specs.Gains.{gain, high-nat, low-nat, sub-less, sub-pos}
 use Rattle.engine.specs.Registers.{noModifier}
 use Rattle.engine.specs.Checks.{firstOf}
+use Rattle.engine.specs.CheckLaws.{first-of}
+use Rattle.engine.specs.CalculationLaws.{nothing}
+use Rattle.engine.specs.BoundLaws.{highs-none, highs-more, rule-none, rule-more}
 use Rattle.engine.specs.Good.{RangedModifier, Ranged}
 use Rattle.engine.specs.ShapeCheck.{checkShape}
-use Rattle.engine.specs.ShapeLaws.{ranged-fits}
+use Rattle.engine.specs.ShapeLaws.{many-refused, ranged-fits}
 use Rattle.engine.specs.declared.check.Why.the-variants.{Nothing, Because}
 use Rattle.translator.specs.NestRules.{nonzeroOf, highWith, lessWith, highsFrom, highsOf, lowOrHighFrom, lowOrHigh, checksOf}
 use Rattle.translator.specs.NestSheets.{modifiersOf, shapeOf}
 use Rattle.translator.specs.ModifierLaws.{total-gain, modifiers-count, modifiers-kept, modifiers-each}
-use Rattle.translator.specs.Acceptance.{InRange, Tidy, many}
+use Rattle.translator.specs.Acceptance.{InRange, Tidy}
 use Rattle.translator.specs.declared.nest.Nest.{Nest}
 
 -- ---- high and low
@@ -73,19 +77,21 @@ module _ (m : Nest) (t : ℕ) (lasts : List ℕ) (e : suc t + length lasts ≡ m
 
 -- high of each loop
 pub highs-same : (m : Nest) (t n : ℕ) → t + n ≡ m .loops → Rules.highs (shapeOf m) t n ≡ highsFrom m t n
-unfolding highsFrom Rules.highs
-highs-same m t zero e = refl
+unfolding highsFrom
+highs-same m t zero e = highs-none (shapeOf m) t
 highs-same m t (suc n) e =
-    ap (λ l. highAt (shapeOf m) t (map lastIndex l) ∷ l) (highs-same m (suc t) n (omega arith))
+    highs-more (shapeOf m) t n
+    ∙ ap (λ l. highAt (shapeOf m) t (map lastIndex l) ∷ l) (highs-same m (suc t) n (omega arith))
     ∙ ap (λ k. k ∷ highsFrom m (suc t) n) (high-same m t (lastsFrom m (suc t) n) (outside m t n e))
 
 -- the rule of 8
 pub low-high-same : (m : Nest) (t n : ℕ) → t + n ≡ m .loops → Rules.lowOrHighFrom (shapeOf m) t n ≡ lowOrHighFrom m t n
-unfolding lowOrHighFrom Rules.lowOrHighFrom
-low-high-same m t zero e = refl
+unfolding lowOrHighFrom
+low-high-same m t zero e = rule-none (shapeOf m) t
 low-high-same m t (suc n) e =
     let lasts : List ℕ = lastsFrom m (suc t) n in
-    ap (λ l. not (nonNeg (lowAt (shapeOf m) t (map lastIndex l))) || ltb 4096 (highAt (shapeOf m) t (map lastIndex l)) || Rules.lowOrHighFrom (shapeOf m) (suc t) n)
+    rule-more (shapeOf m) t n
+    ∙ ap (λ l. not (nonNeg (lowAt (shapeOf m) t (map lastIndex l))) || ltb 4096 (highAt (shapeOf m) t (map lastIndex l)) || Rules.lowOrHighFrom (shapeOf m) (suc t) n)
     (highs-same m (suc t) n (omega arith))
     ∙ (λ i. low-same m t lasts (outside m t n e) i || ltb 4096 (high-same m t lasts (outside m t n e) i) || low-high-same m (suc t) n (omega arith) i)
 
@@ -114,17 +120,21 @@ shape-ranged m r d h =
         go (yes l) = r .counts t l
         go (no l) = omega (arith, d .counts t (omega arith))
 
+-- the rules of a nest, in order
+pub rules-first : (m : Nest)
+    → firstOf (checksOf m)
+    ≡ cond (ltb 8 (nonzeroOf m)) (Because TooMany) (cond (lowOrHigh m) (Because LowHigh) (cond (ltb 1048576 (product (highsOf m))) (Because Product) Nothing))
+rules-first m =
+    rw (first-of TooMany (ltb 8 (nonzeroOf m)), first-of LowHigh (lowOrHigh m), first-of Product (ltb 1048576 (product (highsOf m))), nothing)
+
 -- the rules of a nest in range are the checks of its shape
 pub checks-shape : (m : Nest) → InRange m → Tidy m → firstOf (checksOf m) ≡ checkShape (shapeOf m)
-unfolding firstOf checkShape
-checks-shape m r d = go (ltb 8 (nonzeroOf m)) refl
+checks-shape m r d = rules-first m ∙ go (ltb 8 (nonzeroOf m)) refl
   where
     go : (b : Bool) → ltb 8 (nonzeroOf m) ≡ b
         → cond b (Because TooMany) (cond (lowOrHigh m) (Because LowHigh) (cond (ltb 1048576 (product (highsOf m))) (Because Product) Nothing))
         ≡ checkShape (shapeOf m)
-    go true e =
-        let many : ltb 8 (length (modifiersOf m)) ≡ true = ap (ltb 8) (modifiers-count m) ∙ e in
-        rw (le-ltb 7 (m .loops) (r .loops-most), many)
+    go true e = sym (many-refused (shapeOf m) (omega (arith, modifiers-count m, ltb-true 8 (nonzeroOf m) e)))
     go false e =
         sym (ranged-fits (shapeOf m) (shape-ranged m r d (ltb-false 8 (nonzeroOf m) e)) (r .loops-least)
         ∙ (λ i. cond (low-high-same m 0 (m .loops) (omega arith) i) (Because LowHigh)

@@ -13,12 +13,12 @@ use lib.Seq.{ext-getD}
 use lib.IntN.{ℤ, pos, natAbs}
 use Rattle.codec.specs.Numbers.{signedOf, unsignedOf}
 use Rattle.codec.specs.NumberLaws.{signed-unsigned}
-use Rattle.codec.specs.Headers.{widthCoded, widthCode}
-use Rattle.codec.specs.Operations.{actionCoded, actionCode}
+use Rattle.codec.specs.Headers.{widthCoded}
+use Rattle.codec.specs.HeaderLaws.{width-back}
+use Rattle.codec.specs.Operations.{actionCoded}
+use Rattle.codec.specs.OperationLaws.{action-back}
 use Rattle.codec.specs.declared.header.Width.{Width}
-use Rattle.codec.specs.declared.header.Width.the-variants as letter
 use Rattle.codec.specs.declared.operation.Action.{Action}
-use Rattle.codec.specs.declared.operation.Action.the-variants as action
 use Rattle.engine.specs.Addresses.{noElements}
 use Rattle.translator.specs.Fields.{Role, first, second, destination, Field, width, loops, coupled, operation, count, term, base, stride, termPlace, accessOf, nestOf, withAccess, withBase, withStride, put, numberIn}
 use Rattle.translator.specs.declared.nest.Access.{Access}
@@ -63,24 +63,6 @@ put-based (base b) n m h a = with-based b a (withBase n (accessOf b m)) m refl (
 put-based (stride b d) n m h a = with-based b a (withStride d (signedOf n) (accessOf b m)) m (h b) (h a)
 
 -- ---- nests by their numbers
-
--- the width of a code
-width-back : (w : Width) → widthCoded (widthCode w) ≡ w
-width-back letter.B = refl
-width-back letter.H = refl
-width-back letter.W = refl
-width-back letter.D = refl
-
--- the action of a code
-action-back : (a : Action) → actionCoded (actionCode a) ≡ a
-action-back action.Copy = refl
-action-back action.Add = refl
-action-back action.Subtract = refl
-action-back action.And = refl
-action-back action.Or = refl
-action-back action.Xor = refl
-action-back action.Smaller = refl
-action-back action.Larger = refl
 
 -- two signed numbers that are written as one are one
 pub signed-same : (x y : ℤ) → unsignedOf x ≡ unsignedOf y → x ≡ y

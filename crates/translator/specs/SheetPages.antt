@@ -6,7 +6,7 @@
 --   sheet-writable                 the operations of a nest in range can all be written
 --   sheet-page                     the page of an accepted nest
 use Prim.Native.Nat.{ℕ, zero, suc, _+_, _≤_, _<_}
-use mathlib.Core.Path.{_≡_, refl, sym, _∙_, ap, subst}
+use mathlib.Core.Path.{_≡_, refl, _∙_, ap}
 use mathlib.Core.List.{List, [], _∷_, _++_, map, append-assoc, append-nil}
 use mathlib.Core.Bool.{Bool, true, false, cond, _&&_}
 use native.Mathlib.Omega.{arith}
@@ -17,7 +17,8 @@ use lib.Dec.{eqb, leb}
 use lib.IntN.{ℤ, pos, negsuc, natAbs}
 use lib.Signed.{_≤ℤ_, nonNeg}
 use borrow.Author.Tests.{le-leb, ne-eqb}
-use Rattle.codec.specs.Operations.{operationInRange, operationBytes, calculationInRange, calculationBytes, actionCode, isBase}
+use Rattle.codec.specs.Operations.{operationInRange, operationBytes, calculationInRange, calculationBytes, actionCode, isBase, bytesOfAll}
+use Rattle.codec.specs.BytewiseLaws.{all-append}
 use Rattle.codec.specs.Headers.{couplingInRange}
 use Rattle.codec.specs.Writing.{writtenTo, bytesAfter}
 use Rattle.codec.specs.declared.header.Kind.{Kind}
@@ -29,7 +30,7 @@ use Rattle.engine.specs.Addresses.{noElements}
 use Rattle.engine.specs.AllowedLaws.{test-plain}
 use Rattle.translator.specs.Fields.{termOf}
 use Rattle.translator.specs.Nests.{couplingOf}
-use Rattle.translator.specs.NestSheets.{modifierOf, modifiersAt, modifierOp, headerFor, dimensionOf, dimensionOps, streamOps, sheetOps, runOp, calculationOf, bytesOfAll, sheetOf}
+use Rattle.translator.specs.NestSheets.{modifierOf, modifiersAt, modifierOp, dimensionOf, dimensionOps, streamOps, sheetOps, runOp, calculationOf, sheetOf}
 use Rattle.translator.specs.Acceptance.{AccessInRange, InRange, Accepted}
 use Rattle.translator.specs.RoomLaws.{sheet-most}
 use Rattle.translator.specs.Pages.{Blank, putOne, putAll, putCalculation, SheetPage}
@@ -88,11 +89,6 @@ writable-then : (os ps : List Operation) → Writable os → Writable ps → Wri
 unfolding Writable
 writable-then [] ps v w = w
 writable-then (o ∷ os) ps v w = (v .0, writable-then os ps (v .1) w)
-
-bytes-then : (os ps : List Operation) → bytesOfAll (os ++ ps) ≡ bytesOfAll os ++ bytesOfAll ps
-unfolding bytesOfAll
-bytes-then [] ps = refl
-bytes-then (o ∷ os) ps = ap (λ l. operationBytes 0 o ++ l) (bytes-then os ps) ∙ sym (append-assoc (operationBytes 0 o) (bytesOfAll os) (bytesOfAll ps))
 
 base-in : (z : ℤ) → pos 0 ≤ℤ z → z ≤ℤ pos 1048576 → (nonNeg z && isBase (natAbs z)) ≡ true
 base-in (pos n) h k = test-plain (leb n 1048576) .1 (k .le)
@@ -186,7 +182,7 @@ module _ (m : Nest) (p : Page) (a : Accepted m) (s : SheetPage m p) where
   sheet-is : body ++ last ≡ sheetOf m
   unfolding sheetOf bytesOfAll
   sheet-is =
-      rw (bytes-then (sheetOps m) (runOp ∷ []), append-nil (operationBytes 0 runOp))
+      rw (all-append (sheetOps m) (runOp ∷ []), append-nil (operationBytes 0 runOp))
       (append-assoc (bytesOfAll (sheetOps m)) (operationBytes 0 runOp) last)
 
   short : length body + length last ≤ 1024

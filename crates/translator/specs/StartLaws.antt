@@ -10,8 +10,10 @@ use mathlib.Core.List.{List, [], _∷_, _++_}
 use native.Mathlib.Omega.{arith}
 use lib.ListN.{length}
 use Rattle.codec.specs.NumberLaws.{areBytes, Stands}
+use Rattle.codec.specs.StandingLaws.{stands-front, stands-back, all-stand}
 use Rattle.codec.specs.HeaderLaws.{free-none}
-use Rattle.codec.specs.Operations.{operationBytes, calculationBytes}
+use Rattle.codec.specs.Operations.{operationBytes, bytesOfAll, calculationBytes}
+use Rattle.codec.specs.BytewiseLaws.{Bytewise, bytes-append, operation-bytes, calculation-bytes, all-append}
 use Rattle.codec.specs.declared.header.Kind.{Kind}
 use Rattle.codec.specs.declared.header.Kind.the-variants.{Load, Store}
 use Rattle.codec.specs.declared.operation.Operation.{Operation}
@@ -20,17 +22,16 @@ use Rattle.engine.specs.Given.{Stream, none, ended}
 use Rattle.engine.specs.GivenLaws.{Has, fresh-has}
 use Rattle.engine.specs.Offered.{ended-streaming}
 use Rattle.engine.specs.InStep.{Streaming}
-use Rattle.engine.specs.Promise1.{BodyAt, RunAt, Before}
+use Rattle.engine.specs.Promise1.{RunAt, Before}
+use Rattle.engine.specs.ReadingLaws.{in-range}
+use Rattle.engine.specs.StandLaws.{turns-append, body-one}
+use Rattle.engine.specs.GivingLaws.{Gives, gives-bytes, Turned, gives-turned}
 use Rattle.engine.specs.declared.register.Machine.{Machine}
 use Rattle.engine.specs.declared.run.Placed.{Placed}
 use Rattle.translator.specs.Fields.{Role, first, second, destination, accessOf}
 use Rattle.translator.specs.Nests.{widthOf}
-use Rattle.translator.specs.NestSheets.{streamOf, patternFor, streamOps, sheetOps, runOp, calculationOf, bytesOfAll, sheetOf}
+use Rattle.translator.specs.NestSheets.{streamOf, patternFor, streamOps, sheetOps, runOp, calculationOf, sheetOf}
 use Rattle.translator.specs.Acceptance.{Accepted}
-use Rattle.translator.specs.NestNumbers.{stands-front, stands-back}
-use Rattle.translator.specs.NestingLaws.{all-stand}
-use Rattle.translator.specs.ByteLaws.{Bytewise, bytes-append, operation-bytes, calculation-bytes, all-append}
-use Rattle.translator.specs.GivingLaws.{Gives, gives-bytes, Turned, gives-turned, turns-append}
 use Rattle.translator.specs.PatternLaws.{tidy-access, pattern-same}
 use Rattle.translator.specs.NestStreams.{stream-gives}
 use Rattle.translator.specs.declared.nest.Nest.{Nest}
@@ -111,7 +112,7 @@ module _ (m : Nest) (ac : Accepted m) where
   -- its bytes are bytes
   sheet-are : Bytewise (sheetOf m)
   sheet-are =
-      let run = operation-bytes runOp (omega arith, (omega arith, omega arith)) in
+      let run = operation-bytes runOp (in-range runOp .1 (omega arith, (omega arith, omega arith))) in
       let calculation = calculation-bytes (calculationOf m) (omega arith) (omega arith) (omega arith) in
       rw sheet-bytes (bytes-append (bytes-append (are first) (bytes-append (are second) (are destination))) (bytes-append run calculation))
 
@@ -198,7 +199,6 @@ module _ (m : Nest) (ac : Accepted m) where
 
   -- it is read whole, with no byte behind it
   run-there : RunAt (sheetOf m) at3 1 (body m runs ∷ []) (length (sheetOf m))
-  unfolding BodyAt
   run-there = record {
     from = runs;
     written = record {
@@ -207,18 +207,15 @@ module _ (m : Nest) (ac : Accepted m) where
       range = (omega arith, (omega arith, omega arith));
       stands = stands-front (sheetOf m) (operationBytes 0 runOp) (calculationBytes (calculationOf m)) at3 (length (sheetOf m)) run-stands;
     };
-    body = (
-      length (sheetOf m),
-      refl,
-      record {
-        destination = omega arith;
-        first = omega arith;
-        second = omega arith;
-        copy = λ e. absurd (omega (arith, ac .range .operation));
-        stands = stands-back (sheetOf m) (operationBytes 0 runOp) (calculationBytes (calculationOf m)) at3 (length (sheetOf m)) run-stands;
-      },
-      refl,
-    );
+    body =
+        body-one (sheetOf m) runs (calculationOf m) (length (sheetOf m))
+        (record {
+          destination = omega arith;
+          first = omega arith;
+          second = omega arith;
+          copy = λ e. absurd (omega (arith, ac .range .operation));
+          stands = stands-back (sheetOf m) (operationBytes 0 runOp) (calculationBytes (calculationOf m)) at3 (length (sheetOf m)) run-stands;
+        });
   }
 
   -- all of it

@@ -15,13 +15,13 @@ use codec::number::Cursor;
 use codec::number::Number;
 use codec::number::Signed;
 use codec::operation::Action;
+use codec::operation::in_reach;
 use codec::refusal::Refusal;
 use engine::check::Why;
 use engine::run::Verdict;
 ghost use mathlib.Core.Path.{_≡_};
 ghost use mathlib.Core.List.{_∷_};
 ghost use Prim.Native.Nat.{_+_, _-_, _<_, _≤_};
-ghost use Rattle.codec.specs.Operations.{isReach};
 ghost use Rattle.engine.specs.declared.run.Verdict.the-variants as verdict;
 ghost use Rattle.translator.specs.Fields.{headFields, restFields, termFields, loopFields, noNest, count};
 ghost use Rattle.translator.specs.Reading.{readFrom, nestedOf, nestAt};
@@ -48,16 +48,6 @@ fn is_refused(v: Verdict) -> bool
         Verdict::Done => false,
         Verdict::Refused(_, _) => true,
     }
-}
-
-// Whether a term or a stride is in its range.
-fn in_reach(z: i64) -> bool
-    ensures { λ r. ⌜ r ≡ isReach z ⌝ }
-{
-    if z < -1048576 {
-        return false;
-    }
-    z <= 1048576
 }
 
 // A refusal in the first four numbers, at a place.

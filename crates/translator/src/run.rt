@@ -9,32 +9,16 @@ use engine::register::fresh_machine;
 use engine::run::Answer;
 use engine::run::Report;
 use engine::run::Verdict;
+use engine::run::is_allowed;
 use engine::run::run;
 ghost use mathlib.Core.Path.{_≡_};
 ghost use Rattle.engine.specs.Bodies.{progressOf};
 ghost use Rattle.engine.specs.Registers.{freshMachine};
-ghost use Rattle.engine.specs.Sheets.{allowed};
 ghost use Rattle.engine.specs.Sheets;
 ghost use Rattle.translator.specs.Acceptance.{Accepted};
 ghost use Rattle.translator.specs.NestSheets.{sheetOf};
 ghost use Rattle.translator.specs.Promise3.{Delivered};
 ghost use Rattle.translator.specs.Translation.{runNest, outcomeOf, refusedAnswer};
-
-// "vector length | 8 to 64 bytes, a multiple of 8", "memory | 0 to 65,536 bytes"
-fn is_allowed(vl: u64, size: usize) -> bool
-    ensures { λ r. ⌜ r ≡ allowed vl size ⌝ }
-{
-    if vl < 8 {
-        return false;
-    }
-    if 64 < vl {
-        return false;
-    }
-    if vl % 8 != 0 {
-        return false;
-    }
-    size <= 65536
-}
 
 // A refusal before any register was used.
 fn unrun(refusal: Refusal, place: usize) -> Answer

@@ -1,5 +1,4 @@
 -- `header::fixed_bits` meets its contract: the tests that led to each answer are those of the definition.
-use native.Mathlib.Omega.{arith}
 use borrow.Author.Tests.{eq-eqb, ne-eqb}
 use mathlib.Core.Path.{sym, _∙_}
 use mathlib.Core.Path.{_≡_}

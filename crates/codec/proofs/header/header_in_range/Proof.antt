@@ -1,5 +1,4 @@
 -- `header::header_in_range` meets its contract.
-use native.Mathlib.Omega.{arith}
 use borrow.Author.Tests.{le-leb, lt-leb}
 use borrow.Author.Needs.{needs}
 use Rattle.codec.proofs.header.header_in_range.Statement.{statement}

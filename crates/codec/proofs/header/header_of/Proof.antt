@@ -1,5 +1,4 @@
 -- `header::header_of` meets its contract: 3, then 4, else the fields.
-use native.Mathlib.Omega.{arith}
 use mathlib.Core.Path.{sym, _∙_}
 use Rattle.codec.specs.Headers.{headerOf}
 use borrow.Author.Needs.{needs}

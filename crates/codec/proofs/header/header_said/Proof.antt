@@ -1,5 +1,4 @@
 -- `header::header_said` meets its contract: field by field.
-use native.Mathlib.Omega.{arith}
 use Rattle.codec.specs.Headers.{headerSaid}
 use borrow.Author.Needs.{needs}
 use Rattle.codec.proofs.header.header_said.Statement.{statement}

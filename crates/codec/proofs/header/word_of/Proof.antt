@@ -1,5 +1,4 @@
 -- `header::word_of` meets its contract.
-use native.Mathlib.Omega.{arith}
 use mathlib.Core.Path.{sym, _∙_}
 use borrow.Author.Needs.{needs}
 use Rattle.codec.proofs.header.word_of.Statement.{statement}

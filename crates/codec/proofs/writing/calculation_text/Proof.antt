@@ -2,7 +2,7 @@
 use native.Mathlib.Omega.{arith}
 use mathlib.Core.Path.{_∙_}
 use Rattle.codec.specs.Operations.{calculationBytes}
-use Rattle.codec.proofs.Ranges.{calculation-range}
+use Rattle.codec.specs.RangeLaws.{calculation-range}
 use borrow.Author.Needs.{needs}
 use Rattle.codec.proofs.writing.calculation_text.Statement.{statement}
 use Rattle.codec.proofs.writing.calculation_text.Tie as tie

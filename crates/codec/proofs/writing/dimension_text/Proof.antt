@@ -3,7 +3,7 @@ use native.Mathlib.Omega.{arith}
 use mathlib.Core.Path.{_∙_}
 use Rattle.codec.specs.Operations.{operationBytes}
 use Rattle.codec.proofs.Integers.{back}
-use Rattle.codec.proofs.Ranges.{dimension-range, reach-small}
+use Rattle.codec.specs.RangeLaws.{dimension-range, reach-small}
 use borrow.Author.Needs.{needs}
 use Rattle.codec.proofs.writing.dimension_text.Statement.{statement}
 use Rattle.codec.proofs.writing.dimension_text.Tie as tie

@@ -2,7 +2,7 @@
 use native.Mathlib.Omega.{arith}
 use mathlib.Core.Path.{_∙_}
 use Rattle.codec.specs.Operations.{operationBytes}
-use Rattle.codec.proofs.Ranges.{modifier-range}
+use Rattle.codec.specs.RangeLaws.{modifier-range}
 use borrow.Author.Needs.{needs}
 use Rattle.codec.proofs.writing.modifier_text.Statement.{statement}
 use Rattle.codec.proofs.writing.modifier_text.Tie as tie

@@ -3,7 +3,7 @@ use native.Mathlib.Omega.{arith}
 use mathlib.Core.Path.{_∙_}
 use native.Mathlib.Nat.{add-zero}
 use Rattle.codec.specs.Operations.{operationBytes}
-use Rattle.codec.proofs.Ranges.{open-range}
+use Rattle.codec.specs.RangeLaws.{open-range}
 use borrow.Author.Needs.{needs}
 use Rattle.codec.proofs.writing.open_text.Statement.{statement}
 use Rattle.codec.proofs.writing.open_text.Tie as tie

@@ -2,7 +2,7 @@
 use native.Mathlib.Omega.{arith}
 use mathlib.Core.Path.{_∙_}
 use Rattle.codec.specs.Operations.{operationBytes}
-use Rattle.codec.proofs.Ranges.{run-range}
+use Rattle.codec.specs.RangeLaws.{run-range}
 use borrow.Author.Needs.{needs}
 use Rattle.codec.proofs.writing.run_text.Statement.{statement}
 use Rattle.codec.proofs.writing.run_text.Tie as tie

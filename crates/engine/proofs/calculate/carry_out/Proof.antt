@@ -1,6 +1,5 @@
 -- `calculate::carry_out` meets its contract: both sources are read before anything is written.
-use native.Mathlib.Omega.{arith}
-use mathlib.Core.Path.{_≡_, refl, sym, _∙_, ap, subst}
+use mathlib.Core.Path.{_≡_, refl, sym, _∙_, subst}
 use Prim.Native.Nat.{ℕ, _*_, _≤_}
 use mathlib.Core.Bool.{cond}
 use Rattle.engine.specs.declared.register.Register.{Register}

@@ -1,9 +1,8 @@
 -- `calculate::lanes` meets its contract.
 use native.Mathlib.Omega.{arith}
-use mathlib.Core.Path.{_≡_, refl, sym, _∙_, ap, subst}
+use mathlib.Core.Path.{refl}
 use native.Mathlib.Nat.{div-le-self}
 use Rattle.engine.specs.GoodLaws.{width-some}
-use borrow.Author.Needs.{needs}
 use Rattle.engine.proofs.calculate.lanes.Statement.{statement}
 use Rattle.engine.proofs.calculate.lanes.Tie as tie
 

@@ -1,7 +1,5 @@
 -- `calculate::lanes_differ` meets its contract.
-use native.Mathlib.Omega.{arith}
 use borrow.Author.Tests.{eq-eqb, ne-eqb}
-use borrow.Author.Needs.{needs}
 use Rattle.engine.proofs.calculate.lanes_differ.Statement.{statement}
 use Rattle.engine.proofs.calculate.lanes_differ.Tie as tie
 

@@ -1,5 +1,4 @@
 -- `configure::modified` meets its contract.
-use native.Mathlib.Omega.{arith}
 use borrow.Author.Needs.{needs}
 use Rattle.engine.proofs.configure.modified.Statement.{statement}
 use Rattle.engine.proofs.configure.modified.Tie as tie

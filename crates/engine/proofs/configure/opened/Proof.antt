@@ -1,5 +1,4 @@
 -- `configure::opened` meets its contract.
-use native.Mathlib.Omega.{arith}
 use borrow.Author.Needs.{needs}
 use Rattle.engine.proofs.configure.opened.Statement.{statement}
 use Rattle.engine.proofs.configure.opened.Tie as tie

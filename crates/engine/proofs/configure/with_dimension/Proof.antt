@@ -1,5 +1,4 @@
 -- `configure::with_dimension` meets its contract.
-use native.Mathlib.Omega.{arith}
 use mathlib.Core.Path.{_∙_}
 use borrow.Author.Needs.{needs}
 use Rattle.engine.proofs.configure.with_dimension.Statement.{statement}

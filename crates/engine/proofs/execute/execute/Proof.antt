@@ -1,13 +1,14 @@
 -- `execute::execute` meets its contract: between passes what follows gives what the whole run gives, and within one what is left of it.
 use native.Mathlib.Omega.{arith}
-use Prim.Native.Nat.{ℕ, _+_, _*_, _-_, _≤_, _<_}
-use mathlib.Core.Path.{_≡_, refl, sym, _∙_, ap}
+use Prim.Native.Nat.{_-_, _≤_}
+use mathlib.Core.Path.{_≡_, sym, _∙_, ap}
 use lib.ListN.{length, getD, take}
 use Rattle.engine.specs.Registers.{toCome, reg}
 use Rattle.engine.proofs.PassSteps.{machineOf, Passing, passing, named-here, passing-on, passing-no, Passes, passes-begun, passes-over, passes-no, passes-fewer, passes-on}
 use borrow.Author.Tests.{eqb-true}
 use Rattle.engine.specs.declared.run.Verdict.the-variants.{Refused}
-use Rattle.engine.proofs.BodySteps.{noStep, unmapped}
+use Rattle.engine.proofs.Lengths.{unmapped}
+use Rattle.engine.proofs.BodySteps.{noStep}
 use borrow.Author.Needs.{needs}
 use Rattle.engine.proofs.execute.execute.Statement.{statement}
 use Rattle.engine.proofs.execute.execute.Tie as tie

@@ -5,7 +5,8 @@ use mathlib.Core.Path.{_≡_, refl, sym, _∙_}
 use lib.ListN.{length, take, length-set}
 use Rattle.engine.specs.Memory.{lanesFrom}
 use Rattle.engine.specs.Plans.{Narrow}
-use Rattle.engine.proofs.LaneSteps.{taken-more, narrow-none, narrow-more, lane-room, count-small, lanes-more, lanes-none}
+use Rattle.engine.proofs.LaneCounts.{few-lanes}
+use Rattle.engine.proofs.LaneSteps.{taken-more, narrow-none, narrow-more, lane-room, lanes-more, lanes-none}
 use Rattle.engine.proofs.memory.contents.Statement.{statement}
 use Rattle.engine.proofs.memory.contents.Tie as tie
 
@@ -17,7 +18,7 @@ abbrev μ-loop : tie.MeasureT-loop
 μ-loop lanes width valid n values₀ k₀ values k = n - k
 
 loop-holds : tie.Need-loop-holds Inv-loop μ-loop
-loop-holds c = (omega arith, refl, count-small (c .args .valid) (c .args .width) (c .pre .0 .0) (c .pre .1), refl, sym (lanes-none (c .args .lanes) (c .args .width)), narrow-none (c .args .width))
+loop-holds c = (omega arith, refl, few-lanes (c .args .valid) (c .args .width) (c .pre .0 .0) (c .pre .1), refl, sym (lanes-none (c .args .lanes) (c .args .width)), narrow-none (c .args .width))
 
 lane-at-requires : tie.Need-lane-at-requires Inv-loop μ-loop
 lane-at-requires c κs = let s = c .before .before in (lane-room (c .before .loop .k) (s .args .valid) (s .args .width) 64 (omega arith) (s .pre .1), s .pre .0 .1)

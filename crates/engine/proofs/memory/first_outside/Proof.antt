@@ -5,7 +5,8 @@ use mathlib.Core.Path.{_≡_, sym, _∙_}
 use mathlib.Core.Bool.{true}
 use lib.ListN.{length, take}
 use Rattle.engine.specs.Plans.{allWithin}
-use Rattle.engine.proofs.PlaceSteps.{within-none, within-more, outside-taken, unmapped}
+use Rattle.engine.proofs.Lengths.{unmapped}
+use Rattle.engine.proofs.PlaceSteps.{within-none, within-more, outside-taken}
 use borrow.Author.Tests.{not-true, not-false}
 use borrow.Author.Needs.{needs}
 use Rattle.engine.proofs.memory.first_outside.Statement.{statement}

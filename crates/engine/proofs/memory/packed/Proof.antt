@@ -5,7 +5,8 @@ use mathlib.Core.Path.{_≡_, refl, sym, _∙_, ap}
 use lib.ListN.{length, getD, take}
 use Rattle.engine.specs.Memory.{littleEndian, packed}
 use lib.Seq.{sets, length-sets}
-use Rattle.engine.proofs.LaneSteps.{lane-room, count-small, packed-more, packed-none}
+use Rattle.engine.proofs.LaneCounts.{few-lanes}
+use Rattle.engine.proofs.LaneSteps.{lane-room, packed-more, packed-none}
 use borrow.Author.Needs.{needs}
 use Rattle.engine.proofs.memory.packed.Statement.{statement}
 use Rattle.engine.proofs.memory.packed.Tie as tie
@@ -18,7 +19,7 @@ abbrev μ-loop : tie.MeasureT-loop
 μ-loop width n values lanes₀ k₀ lanes k = n - k
 
 loop-holds : tie.Need-loop-holds Inv-loop μ-loop
-loop-holds c = let s = c .before in (omega arith, count-small (s .args .l .count) (s .args .width) (s .pre .0 .0) (s .pre .1), refl, sym (packed-none (s .args .width)))
+loop-holds c = let s = c .before in (omega arith, few-lanes (s .args .l .count) (s .args .width) (s .pre .0 .0) (s .pre .1), refl, sym (packed-none (s .args .width)))
 
 mul-at : tie.Need-mul-at Inv-loop μ-loop
 mul-at c = let s = c .before .before .before in omega (arith, lane-room (c .before .loop .k) (s .args .l .count) (s .args .width) 64 (omega arith) (s .pre .1))

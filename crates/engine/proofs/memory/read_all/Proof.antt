@@ -4,7 +4,8 @@ use Prim.Native.Nat.{_+_, _-_, _≤_}
 use mathlib.Core.Path.{_≡_, refl, sym, _∙_, ap}
 use lib.ListN.{length, getD, take, length-set}
 use Rattle.engine.specs.Plans.{Narrow, fetchedAt}
-use Rattle.engine.proofs.PlaceSteps.{room-at, unmapped}
+use Rattle.engine.proofs.Lengths.{unmapped}
+use Rattle.engine.proofs.PlaceSteps.{room-at}
 use Rattle.engine.proofs.LaneSteps.{taken-more, narrow-none, narrow-more, fetched-more}
 use mathlib.Core.Bool.{true}
 use lib.Signed.{nonNeg}

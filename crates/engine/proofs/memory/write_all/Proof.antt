@@ -5,7 +5,8 @@ use mathlib.Core.Path.{_≡_, refl, sym, _∙_, ap}
 use lib.ListN.{length, getD, take}
 use lib.Seq.{sets, length-sets}
 use Rattle.engine.specs.Plans.{storedAt}
-use Rattle.engine.proofs.PlaceSteps.{room-at, unmapped}
+use Rattle.engine.proofs.Lengths.{unmapped}
+use Rattle.engine.proofs.PlaceSteps.{room-at}
 use Rattle.engine.proofs.LaneSteps.{stored-more, stored-none}
 use mathlib.Core.Bool.{true}
 use lib.Signed.{nonNeg}

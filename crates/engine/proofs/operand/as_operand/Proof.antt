@@ -1,6 +1,6 @@
 -- `operand::as_operand` meets its contract: the plan of an open stream, or the register as it is.
 use native.Mathlib.Omega.{arith}
-use mathlib.Core.Path.{_≡_, refl, sym, _∙_, ap}
+use mathlib.Core.Path.{_≡_, sym, _∙_}
 use Prim.Native.Nat.{ℕ}
 use mathlib.Core.Bool.{true, false}
 use Rattle.engine.specs.Registers.{isOpen}

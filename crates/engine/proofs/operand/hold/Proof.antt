@@ -1,6 +1,5 @@
 -- `operand::hold` meets its contract: there are as many lanes as are counted.
-use native.Mathlib.Omega.{arith}
-use mathlib.Core.Path.{_≡_, refl, sym, _∙_, ap}
+use mathlib.Core.Path.{sym}
 use Rattle.engine.specs.Memory.{holding}
 use Rattle.engine.proofs.LaneCounts.{lanes-count}
 use borrow.Author.Needs.{needs}

@@ -1,6 +1,4 @@
 -- `operand::lanes_of` meets its contract: the lanes in memory of an open stream, or the register's own.
-use native.Mathlib.Omega.{arith}
-use mathlib.Core.Path.{_≡_, refl, sym, _∙_, ap}
 use borrow.Author.Needs.{needs}
 use Rattle.engine.proofs.operand.lanes_of.Statement.{statement}
 use Rattle.engine.proofs.operand.lanes_of.Tie as tie

@@ -1,5 +1,4 @@
 -- `operand::outside` meets its contract.
-use native.Mathlib.Omega.{arith}
 use borrow.Author.Needs.{needs}
 use Rattle.engine.proofs.operand.outside.Statement.{statement}
 use Rattle.engine.proofs.operand.outside.Tie as tie

@@ -1,5 +1,4 @@
 -- `operand::read_on` meets its contract.
-use native.Mathlib.Omega.{arith}
 use borrow.Author.Needs.{needs}
 use Rattle.engine.proofs.operand.read_on.Statement.{statement}
 use Rattle.engine.proofs.operand.read_on.Tie as tie

@@ -1,5 +1,4 @@
 -- `operand::second_operand` meets its contract.
-use native.Mathlib.Omega.{arith}
 use borrow.Author.Needs.{needs}
 use Rattle.engine.proofs.operand.second_operand.Statement.{statement}
 use Rattle.engine.proofs.operand.second_operand.Tie as tie

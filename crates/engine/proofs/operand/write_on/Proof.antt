@@ -1,6 +1,4 @@
 -- `operand::write_on` meets its contract.
-use native.Mathlib.Omega.{arith}
-use mathlib.Core.Path.{_≡_, ap}
 use borrow.Author.Needs.{needs}
 use Rattle.engine.proofs.operand.write_on.Statement.{statement}
 use Rattle.engine.proofs.operand.write_on.Tie as tie

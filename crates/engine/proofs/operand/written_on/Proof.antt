@@ -1,5 +1,4 @@
 -- `operand::written_on` meets its contract.
-use native.Mathlib.Omega.{arith}
 use borrow.Author.Needs.{needs}
 use Rattle.engine.proofs.operand.written_on.Statement.{statement}
 use Rattle.engine.proofs.operand.written_on.Tie as tie

@@ -1,5 +1,4 @@
 -- `place::along` meets its contract.
-use native.Mathlib.Omega.{arith}
 use borrow.Author.Needs.{needs}
 use Rattle.engine.proofs.place.along.Statement.{statement}
 use Rattle.engine.proofs.place.along.Tie as tie

@@ -1,5 +1,4 @@
 -- `place::place_at` meets its contract: field by field.
-use native.Mathlib.Omega.{arith}
 use mathlib.Core.Path.{_∙_, ap}
 use Rattle.engine.specs.Addresses.{inBytes}
 use borrow.Author.Needs.{needs}

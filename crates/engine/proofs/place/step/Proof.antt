@@ -1,10 +1,10 @@
 -- `place::step` meets its contract: along the row the next element has the innermost index one higher; else the search finds it.
 use native.Mathlib.Omega.{arith}
 use Prim.Native.Nat.{ℕ, suc, _+_, _≤_, _<_, _^_}
-use mathlib.Core.Path.{_≡_, refl, sym, _∙_, ap, subst}
+use mathlib.Core.Path.{_≡_, refl, sym, _∙_, ap}
 use mathlib.Core.List.{[]}
 use mathlib.Core.Bool.{true, false}
-use lib.ListN.{length, getD, drop, set}
+use lib.ListN.{length, getD, drop}
 use lib.Dec.{ltb}
 use lib.IntN.{natAbs}
 use borrow.Author.Tests.{ltb-true, ltb-false, not-true, not-false}
@@ -18,12 +18,6 @@ use Rattle.engine.proofs.Rows.{along-place, row-next, height-next, row-
 use borrow.Author.Needs.{needs}
 use Rattle.engine.proofs.place.step.Statement.{statement}
 use Rattle.engine.proofs.place.step.Tie as tie
-use Rattle.engine.proofs.place.step.Reads as reads
-use Rattle.engine.proofs.place.step.Lts as lts
-use Rattle.engine.proofs.height.differ.Reads as differ-reads
-use Rattle.engine.proofs.place.along.Reads as along-reads
-use Rattle.engine.proofs.place.place_at.Reads as place-at-reads
-use Rattle.engine.proofs.walk.next.Reads as next-reads
 
 -- the indices are below 4,096
 small : (c : tie.Start) (k : ℕ) → getD (c .args .here .index) k 0 ≤ 4095

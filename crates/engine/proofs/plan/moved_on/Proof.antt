@@ -1,5 +1,4 @@
 -- `plan::moved_on` meets its contract: the walk says where the stream stands.
-use native.Mathlib.Omega.{arith}
 use Prim.Native.Nat.{_+_}
 use mathlib.Core.Path.{_∙_, ap}
 use Rattle.engine.specs.Registers.{movedBy}

@@ -1,6 +1,6 @@
 -- `plan::plan_chunk` meets its contract: after k elements what was planned is the front of the chunk, and the walk stands behind it.
-use Prim.Native.Nat.{ℕ, suc, _+_, _-_, _≤_, _<_}
-use mathlib.Core.Path.{_≡_, refl, sym, _∙_, ap}
+use Prim.Native.Nat.{suc, _+_, _-_, _≤_}
+use mathlib.Core.Path.{refl, sym, _∙_}
 use Rattle.engine.specs.Places.{Ready, Onward}
 use Rattle.engine.proofs.Measure.{Going, going, here-index, here-place, one-more, onward-more, ends-here, goes-on, planned}
 use native.Mathlib.Omega.{arith}

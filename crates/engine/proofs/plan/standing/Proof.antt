@@ -1,6 +1,4 @@
 -- `plan::standing` meets its contract.
-use native.Mathlib.Omega.{arith}
-use borrow.Author.Needs.{needs}
 use Rattle.engine.proofs.plan.standing.Statement.{statement}
 use Rattle.engine.proofs.plan.standing.Tie as tie
 

@@ -1,9 +1,8 @@
 -- `question::end_of_stream` meets its contract: the tests are those of the list, in its order.
-use native.Mathlib.Omega.{arith}
 use Rattle.engine.specs.Checks.{firstOf}
-use Rattle.engine.specs.Questions.{askFlag, askEnd}
+use Rattle.engine.specs.Questions.{askEnd}
 use mathlib.Core.Path.{sym, _∙_}
-use borrow.Author.Tests.{lt-ltb, le-ltb, eq-eqb, ne-eqb, not-true, not-false}
+use borrow.Author.Tests.{lt-ltb, le-ltb, not-true, not-false}
 use borrow.Author.Needs.{needs}
 use Rattle.engine.proofs.question.end_of_stream.Statement.{statement}
 use Rattle.engine.proofs.question.end_of_stream.Tie as tie

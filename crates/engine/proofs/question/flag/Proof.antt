@@ -1,7 +1,6 @@
 -- `question::flag` meets its contract: the tests are those of the list, in its order.
-use native.Mathlib.Omega.{arith}
 use Rattle.engine.specs.Checks.{firstOf}
-use Rattle.engine.specs.Questions.{askFlag, askEnd}
+use Rattle.engine.specs.Questions.{askFlag}
 use mathlib.Core.Path.{sym, _∙_}
 use borrow.Author.Tests.{lt-ltb, le-ltb, eq-eqb, ne-eqb, not-true, not-false}
 use borrow.Author.Needs.{needs}

@@ -1,5 +1,4 @@
 -- `register::fresh` meets its contract.
-use native.Mathlib.Omega.{arith}
 use borrow.Author.Needs.{needs}
 use Rattle.engine.proofs.register.fresh.Statement.{statement}
 use Rattle.engine.proofs.register.fresh.Tie as tie

@@ -1,5 +1,4 @@
 -- `register::fresh_machine` meets its contract.
-use native.Mathlib.Omega.{arith}
 use borrow.Author.Needs.{needs}
 use Rattle.engine.proofs.register.fresh_machine.Statement.{statement}
 use Rattle.engine.proofs.register.fresh_machine.Tie as tie

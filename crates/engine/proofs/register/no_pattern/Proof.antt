@@ -1,5 +1,4 @@
 -- `register::no_pattern` meets its contract.
-use native.Mathlib.Omega.{arith}
 use borrow.Author.Needs.{needs}
 use Rattle.engine.proofs.register.no_pattern.Statement.{statement}
 use Rattle.engine.proofs.register.no_pattern.Tie as tie

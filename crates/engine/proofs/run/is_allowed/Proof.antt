@@ -1,8 +1,5 @@
 -- `run::is_allowed` meets its contract.
-use native.Mathlib.Omega.{arith}
-use mathlib.Core.Path.{_≡_, refl, sym, _∙_, ap}
 use borrow.Author.Tests.{lt-leb, le-leb, eq-eqb, ne-eqb}
-use borrow.Author.Needs.{needs}
 use Rattle.engine.proofs.run.is_allowed.Statement.{statement}
 use Rattle.engine.proofs.run.is_allowed.Tie as tie
 

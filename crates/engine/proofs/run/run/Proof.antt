@@ -1,6 +1,5 @@
 -- `run::run` meets its contract: 15 first, then what follows from how the operations ended.
-use native.Mathlib.Omega.{arith}
-use mathlib.Core.Path.{_≡_, refl, sym, _∙_, ap}
+use mathlib.Core.Path.{sym, _∙_}
 use borrow.Author.Tests.{not-true, not-false}
 use Rattle.engine.proofs.WholeSteps.{fresh-is-good, not-allowed, allowed-length, answer, ready}
 use lib.ListN.{length}

@@ -1,6 +1,5 @@
 -- `run::set_up` meets its contract.
-use native.Mathlib.Omega.{arith}
-use mathlib.Core.Path.{_≡_, refl, sym, _∙_, ap}
+use mathlib.Core.Path.{sym, _∙_, ap}
 use Rattle.engine.specs.Sheets.{operationsFrom}
 use Rattle.engine.specs.Bodies.{bodyOf, endingIs, verdictOf, settledOf}
 use Rattle.engine.proofs.WholeSteps.{fresh-is-good}

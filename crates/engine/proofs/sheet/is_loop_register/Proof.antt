@@ -1,7 +1,6 @@
 -- `sheet::is_loop_register` meets its contract.
-use native.Mathlib.Omega.{arith}
-use mathlib.Core.Path.{_≡_, refl, sym, _∙_, ap}
-use borrow.Author.Tests.{lt-ltb, le-ltb, not-true, not-false}
+use mathlib.Core.Path.{sym, _∙_}
+use borrow.Author.Tests.{not-true, not-false}
 use borrow.Author.Needs.{needs}
 use Rattle.engine.proofs.sheet.is_loop_register.Statement.{statement}
 use Rattle.engine.proofs.sheet.is_loop_register.Tie as tie

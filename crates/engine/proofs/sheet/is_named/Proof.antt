@@ -1,10 +1,11 @@
 -- `sheet::is_named` meets its contract: what is left to look at decides.
 use native.Mathlib.Omega.{arith}
-use Prim.Native.Nat.{ℕ, _+_, _-_, _≤_, _<_}
-use mathlib.Core.Path.{_≡_, refl, sym, _∙_, ap}
-use lib.ListN.{length, take, drop, set, length-set}
+use Prim.Native.Nat.{_-_, _≤_}
+use mathlib.Core.Path.{_≡_, refl, sym, _∙_}
+use lib.ListN.{length, take, drop}
 use Rattle.engine.specs.Sheets.{names}
-use Rattle.engine.proofs.BodySteps.{unmapped, named-first, named-second, not-named, named-none}
+use Rattle.engine.proofs.Lengths.{unmapped}
+use Rattle.engine.proofs.BodySteps.{named-first, named-second, not-named, named-none}
 use borrow.Author.Needs.{needs}
 use Rattle.engine.proofs.sheet.is_named.Statement.{statement}
 use Rattle.engine.proofs.sheet.is_named.Tie as tie

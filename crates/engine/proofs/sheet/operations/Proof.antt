@@ -1,6 +1,6 @@
 -- `sheet::operations` meets its contract: what is left of the sheet stays what there was to do.
 use native.Mathlib.Omega.{arith}
-use Prim.Native.Nat.{ℕ, _-_, _≤_, _<_}
+use Prim.Native.Nat.{ℕ, _-_, _≤_}
 use mathlib.Core.Path.{_≡_, refl, sym, _∙_, ap, subst}
 use Rattle.engine.specs.Good.{AllGood}
 use Rattle.engine.specs.GoodLaws.{configured-good}

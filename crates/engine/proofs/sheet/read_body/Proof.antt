@@ -1,10 +1,11 @@
 -- `sheet::read_body` meets its contract: what was read, and the rest of the body, are the whole body.
 use native.Mathlib.Omega.{arith}
-use Prim.Native.Nat.{ℕ, _+_, _-_, _≤_, _<_}
-use mathlib.Core.Path.{_≡_, refl, sym, _∙_, ap}
-use lib.ListN.{length, take, drop, set, length-set}
+use Prim.Native.Nat.{_-_, _≤_}
+use mathlib.Core.Path.{_≡_, sym, _∙_, ap}
+use lib.ListN.{length, take, length-set}
 use Rattle.engine.specs.Sheets.{bodyAt}
-use Rattle.engine.proofs.BodySteps.{unmapped, behind, body-more, body-stops, body-whole}
+use Rattle.engine.proofs.Lengths.{unmapped}
+use Rattle.engine.proofs.BodySteps.{behind, body-more, body-stops, body-whole}
 use borrow.Author.Needs.{needs}
 use Rattle.engine.proofs.sheet.read_body.Statement.{statement}
 use Rattle.engine.proofs.sheet.read_body.Tie as tie

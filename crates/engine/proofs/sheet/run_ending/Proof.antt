@@ -1,7 +1,6 @@
 -- `sheet::run_ending` meets its contract: the body, then bytes after it, then 16.
-use native.Mathlib.Omega.{arith}
-use mathlib.Core.Path.{_≡_, refl, sym, _∙_, ap}
-use borrow.Author.Tests.{lt-ltb, le-ltb, not-true, not-false}
+use mathlib.Core.Path.{_≡_, sym, _∙_, ap}
+use borrow.Author.Tests.{lt-ltb, le-ltb}
 use Rattle.engine.specs.Sheets.{endingOf, bodyAt}
 use Rattle.engine.specs.Bodies.{bodyOf, calculationsOf}
 use Rattle.engine.specs.declared.sheet.Reading.{Reading}

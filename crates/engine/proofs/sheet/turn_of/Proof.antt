@@ -1,5 +1,4 @@
 -- `sheet::turn_of` meets its contract.
-use native.Mathlib.Omega.{arith}
 use borrow.Author.Needs.{needs}
 use Rattle.engine.proofs.sheet.turn_of.Statement.{statement}
 use Rattle.engine.proofs.sheet.turn_of.Tie as tie

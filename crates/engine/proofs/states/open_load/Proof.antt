@@ -1,5 +1,4 @@
 -- `states::open_load` meets its contract.
-use native.Mathlib.Omega.{arith}
 use mathlib.Core.Path.{sym, _∙_}
 use borrow.Author.Needs.{needs}
 use Rattle.engine.proofs.states.open_load.Statement.{statement}

@@ -1,5 +1,4 @@
 -- `states::open_store` meets its contract.
-use native.Mathlib.Omega.{arith}
 use mathlib.Core.Path.{sym, _∙_}
 use borrow.Author.Needs.{needs}
 use Rattle.engine.proofs.states.open_store.Statement.{statement}

@@ -1,5 +1,4 @@
 -- `states::why_source` meets its contract: the tests are those of the list, in its order.
-use native.Mathlib.Omega.{arith}
 use mathlib.Core.Path.{sym, _∙_}
 use Rattle.engine.specs.Checks.{firstOf}
 use borrow.Author.Needs.{needs}

@@ -1,5 +1,4 @@
 -- `states::why_states` meets its contract: the first list that refuses decides.
-use native.Mathlib.Omega.{arith}
 use mathlib.Core.Path.{sym, _∙_}
 use mathlib.Core.List.{_++_}
 use Rattle.engine.specs.CheckLaws.{first-stops, first-goes}

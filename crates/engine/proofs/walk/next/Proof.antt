@@ -1,11 +1,11 @@
 -- `walk::next` meets its contract: with the innermost index one further, what comes after the element is to come.
 use native.Mathlib.Omega.{arith}
-use Prim.Native.Nat.{ℕ, suc, _+_, _≤_, _<_}
-use mathlib.Core.Path.{_≡_, sym, _∙_, ap, subst}
+use Prim.Native.Nat.{ℕ, suc, _+_, _≤_}
+use mathlib.Core.Path.{_≡_, sym, _∙_, ap}
 use mathlib.Core.List.{List, _∷_}
-use lib.ListN.{length, getD, drop, set}
+use lib.ListN.{length, getD}
 use lib.Seq.{getD-drop, drop-set-lt}
-use Rattle.engine.specs.Loops.{sizeAt, elements}
+use Rattle.engine.specs.Loops.{sizeAt}
 use Rattle.engine.specs.Rules.{lastIndex, highAt}
 use Rattle.engine.specs.BoundLaws.{lastsFrom, lasts-next}
 use Rattle.engine.specs.Walk.{after}

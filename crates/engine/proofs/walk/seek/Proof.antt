@@ -1,11 +1,11 @@
 -- `walk::seek` meets its contract: what is to come stays the same at each turn, until an element or the end is met.
 use native.Mathlib.Omega.{arith}
 use Prim.Native.Nat.{ℕ, suc, _+_, _-_, _≤_, _<_}
-use mathlib.Core.Path.{_≡_, refl, sym, _∙_, ap, subst}
-use lib.ListN.{length, getD, set, drop, length-set}
+use mathlib.Core.Path.{_≡_, refl, _∙_, ap, subst}
+use lib.ListN.{length, getD, drop, length-set}
 use Rattle.engine.specs.Loops.{sizeAt}
-use Rattle.engine.specs.BoundLaws.{Under, bounded, under-small}
-use Rattle.engine.specs.Walk.{at, after, costAt}
+use Rattle.engine.specs.BoundLaws.{Under, under-small}
+use Rattle.engine.specs.Walk.{at, costAt}
 use Rattle.engine.specs.WalkLaws.{at-end, at-found}
 use Rattle.engine.proofs.Turns.{goes-down, goes-up, cost-goes-down, cost-goes-up, all-small, under-down, under-up}
 use lib.Seq.{getD-drop}

@@ -1,7 +1,6 @@
 -- `read::no_head` meets its contract.
-use native.Mathlib.Omega.{arith}
 use borrow.Author.Needs.{needs}
-use mathlib.Core.Path.{_≡_, refl}
+use mathlib.Core.Path.{refl}
 use Rattle.translator.proofs.read.no_head.Statement.{statement}
 use Rattle.translator.proofs.read.no_head.Tie as tie
 

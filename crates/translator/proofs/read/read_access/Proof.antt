@@ -1,7 +1,7 @@
 -- `read::read_access` meets its contract: the base in range, then the strides.
 use native.Mathlib.Omega.{arith}
 use borrow.Author.Needs.{needs}
-use mathlib.Core.Path.{_≡_, sym, _∙_}
+use mathlib.Core.Path.{sym, _∙_}
 use Rattle.translator.specs.PartLaws.{access-none, access-over, access-next, in-range, over, stop-side}
 use Rattle.translator.proofs.read.read_access.Statement.{statement}
 use Rattle.translator.proofs.read.read_access.Tie as tie

@@ -1,12 +1,10 @@
 -- `read::read_head` meets its contract: each number in range leads on to the next.
 use native.Mathlib.Omega.{arith}
-use Prim.Native.Nat.{ℕ, _<_, _≤_}
+use Prim.Native.Nat.{ℕ}
 use mathlib.Core.Path.{_≡_, sym, _∙_}
 use mathlib.Core.List.{List, [], _∷_}
 use borrow.Author.Needs.{needs}
-use Rattle.codec.specs.Numbers.{numberAt}
-use Rattle.codec.specs.declared.number.Number.the-variants.{Value}
-use Rattle.translator.specs.Fields.{Field, width, loops, coupled, operation, headFields, noNest, put}
+use Rattle.translator.specs.Fields.{width, loops, coupled, operation, headFields, noNest, put}
 use Rattle.translator.specs.Reading.{Read, readFrom}
 use Rattle.translator.specs.PartLaws.{read-none, read-over, read-next, in-range, under, over, stop}
 use Rattle.translator.proofs.read.read_head.Statement.{statement}

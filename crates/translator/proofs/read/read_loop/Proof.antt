@@ -1,7 +1,7 @@
 -- `read::read_loop` meets its contract: the count in range, then the terms.
 use native.Mathlib.Omega.{arith}
 use borrow.Author.Needs.{needs}
-use mathlib.Core.Path.{_≡_, sym, _∙_}
+use mathlib.Core.Path.{sym, _∙_}
 use Rattle.translator.specs.PartLaws.{read-none, read-over, read-next, in-range, over, stop}
 use Rattle.translator.proofs.read.read_loop.Statement.{statement}
 use Rattle.translator.proofs.read.read_loop.Tie as tie

@@ -1,7 +1,7 @@
 -- `read::read_loops` meets its contract: the loops that are left to read, from where the loop stands, give what all of them give.
 use native.Mathlib.Omega.{arith}
 use borrow.Author.Needs.{needs}
-use Prim.Native.Nat.{_-_, _≤_}
+use Prim.Native.Nat.{_-_}
 use mathlib.Core.Path.{_≡_, refl, sym, _∙_}
 use mathlib.Core.Bool.{false}
 use Rattle.translator.specs.Fields.{loopFields}

@@ -1,8 +1,7 @@
 -- `read::read_nest` meets its contract: a refusal of the first four numbers, of those behind them, of bytes after them, or of a rule; else the nest.
-use native.Mathlib.Omega.{arith}
 use borrow.Author.Needs.{needs}
 use Prim.Native.Nat.{ℕ}
-use mathlib.Core.Path.{_≡_, refl, sym, _∙_}
+use mathlib.Core.Path.{_≡_, sym, _∙_}
 use mathlib.Core.Bool.{false}
 use mathlib.Core.List.{List}
 use Rattle.codec.specs.NumberLaws.{areBytes}

@@ -1,14 +1,10 @@
 -- `read::read_rest` meets its contract: the loops, then each access, lead on to the next, or stop at a refusal.
-use native.Mathlib.Omega.{arith}
 use borrow.Author.Needs.{needs}
-use Prim.Native.Nat.{ℕ}
-use mathlib.Core.Path.{_≡_, refl, sym, _∙_}
-use mathlib.Core.List.{List, _++_}
+use mathlib.Core.Path.{_≡_, sym, _∙_}
+use mathlib.Core.List.{_++_}
 use Rattle.translator.specs.Fields.{first, second, destination, accessFields, restFields, withAccess}
 use Rattle.translator.specs.Reading.{Read, readFrom}
-use Rattle.translator.specs.Parts.{partOf}
 use Rattle.translator.specs.PartLaws.{same-refusal, then-stays, then-goes, withSide, side-read}
-use Rattle.translator.specs.declared.nest.Nest.{Nest}
 use Rattle.translator.proofs.read.read_rest.Statement.{statement}
 use Rattle.translator.proofs.read.read_rest.Tie as tie
 

@@ -1,7 +1,7 @@
 -- `read::read_strides` meets its contract: the strides that are left to read, from where the loop stands, give what all of them give.
 use native.Mathlib.Omega.{arith}
 use Prim.Native.Nat.{_-_}
-use mathlib.Core.Path.{_≡_, refl, sym, _∙_}
+use mathlib.Core.Path.{_≡_, sym, _∙_}
 use borrow.Author.Tests.{not-true, not-false}
 use borrow.Author.Needs.{needs}
 use Rattle.codec.proofs.Fields.{signed-back, signed-reach}

@@ -1,5 +1,4 @@
 -- `rules::coupling_of` meets its contract.
-use native.Mathlib.Omega.{arith}
 use borrow.Author.Needs.{needs}
 use Prim.Native.Nat.{ℕ, zero, suc}
 use mathlib.Core.Path.{_≡_, refl}

@@ -1,7 +1,5 @@
 -- `rules::keep` meets its contract.
-use native.Mathlib.Omega.{arith}
 use borrow.Author.Needs.{needs}
-use mathlib.Core.Path.{_≡_, refl}
 use borrow.Author.Tests.{lt-ltb, le-ltb}
 use Rattle.translator.proofs.rules.keep.Statement.{statement}
 use Rattle.translator.proofs.rules.keep.Tie as tie

@@ -2,7 +2,7 @@
 use native.Mathlib.Omega.{arith}
 use borrow.Author.Needs.{needs}
 use Prim.Native.Nat.{_-_}
-use mathlib.Core.Path.{_≡_, refl, sym, _∙_}
+use mathlib.Core.Path.{_≡_, sym, _∙_}
 use Rattle.translator.specs.NestSheets.{modifiersFrom}
 use Rattle.translator.specs.Keeping.{noneKept, keepAll}
 use Rattle.translator.specs.KeepingLaws.{from-next, from-end}

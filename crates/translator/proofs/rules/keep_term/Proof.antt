@@ -1,7 +1,5 @@
 -- `rules::keep_term` meets its contract.
-use native.Mathlib.Omega.{arith}
 use borrow.Author.Needs.{needs}
-use mathlib.Core.Path.{_≡_, refl, sym, _∙_}
 use borrow.Author.Tests.{eq-eqb, ne-eqb}
 use Rattle.translator.proofs.rules.keep_term.Statement.{statement}
 use Rattle.translator.proofs.rules.keep_term.Tie as tie

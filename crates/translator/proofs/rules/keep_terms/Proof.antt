@@ -1,8 +1,7 @@
 -- `rules::keep_terms` meets its contract: what is left to keep, kept with what is kept, gives all.
 use native.Mathlib.Omega.{arith}
-use borrow.Author.Needs.{needs}
 use Prim.Native.Nat.{_-_}
-use mathlib.Core.Path.{_≡_, refl, sym, _∙_}
+use mathlib.Core.Path.{_≡_, sym, _∙_}
 use Rattle.translator.specs.NestSheets.{modifiersAt}
 use Rattle.translator.specs.Keeping.{keepAll}
 use Rattle.translator.specs.KeepingLaws.{at-next, at-end}

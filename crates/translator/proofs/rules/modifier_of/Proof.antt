@@ -1,7 +1,5 @@
 -- `rules::modifier_of` meets its contract.
-use native.Mathlib.Omega.{arith}
 use borrow.Author.Needs.{needs}
-use mathlib.Core.Path.{_≡_, refl}
 use Rattle.translator.proofs.rules.modifier_of.Statement.{statement}
 use Rattle.translator.proofs.rules.modifier_of.Tie as tie
 

@@ -1,7 +1,5 @@
 -- `rules::why_not` meets its contract.
-use native.Mathlib.Omega.{arith}
 use borrow.Author.Needs.{needs}
-use mathlib.Core.Path.{_≡_, refl}
 use Rattle.translator.proofs.rules.why_not.Statement.{statement}
 use Rattle.translator.proofs.rules.why_not.Tie as tie
 

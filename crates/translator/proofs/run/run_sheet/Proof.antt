@@ -1,7 +1,7 @@
 -- `run::run_sheet` meets its contract: what stands on the page is the sheet.
 use native.Mathlib.Omega.{arith}
 use borrow.Author.Needs.{needs}
-use mathlib.Core.Path.{_≡_, refl, sym, _∙_}
+use mathlib.Core.Path.{_≡_}
 use lib.ListN.{length, take}
 use Rattle.translator.specs.NestSheets.{sheetOf}
 use Rattle.translator.specs.SheetPages.{Holds, sheet-page}

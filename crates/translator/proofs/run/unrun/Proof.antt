@@ -1,7 +1,5 @@
 -- `run::unrun` meets its contract.
-use native.Mathlib.Omega.{arith}
 use borrow.Author.Needs.{needs}
-use mathlib.Core.Path.{_≡_, refl}
 use Rattle.translator.proofs.run.unrun.Statement.{statement}
 use Rattle.translator.proofs.run.unrun.Tie as tie
 

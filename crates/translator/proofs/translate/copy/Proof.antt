@@ -1,7 +1,7 @@
 -- `translate::copy` meets its contract: what is left to copy, stored in the room as it is, gives what all of it gives in the room as it was.
 use native.Mathlib.Omega.{arith}
 use borrow.Author.Needs.{needs}
-use Prim.Native.Nat.{_+_, _-_, _≤_}
+use Prim.Native.Nat.{_-_, _≤_}
 use mathlib.Core.Path.{_≡_, refl, sym, _∙_}
 use lib.ListN.{length, take, drop, length-set}
 use lib.Seq.{sets}

@@ -1,5 +1,4 @@
 -- `translate::translate` meets its contract: the refusal of the nest, or what placing its sheet answers.
-use native.Mathlib.Omega.{arith}
 use borrow.Author.Needs.{needs}
 use mathlib.Core.Path.{_≡_, refl, sym, _∙_, ap}
 use Rattle.translator.specs.Reading.{nest, nestAt, nestedOf}

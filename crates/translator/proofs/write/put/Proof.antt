@@ -1,7 +1,5 @@
 -- `write::put` meets its contract.
-use native.Mathlib.Omega.{arith}
 use borrow.Author.Needs.{needs}
-use mathlib.Core.Path.{_≡_, refl}
 use Rattle.translator.specs.Pages.{putOne}
 use Rattle.translator.proofs.write.put.Statement.{statement}
 use Rattle.translator.proofs.write.put.Tie as tie

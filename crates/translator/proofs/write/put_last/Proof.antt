@@ -1,7 +1,5 @@
 -- `write::put_last` meets its contract.
-use native.Mathlib.Omega.{arith}
 use borrow.Author.Needs.{needs}
-use mathlib.Core.Path.{_≡_, refl}
 use Rattle.translator.specs.Pages.{putCalculation}
 use Rattle.translator.proofs.write.put_last.Statement.{statement}
 use Rattle.translator.proofs.write.put_last.Tie as tie

@@ -1,7 +1,6 @@
 -- `write::put_stream` meets its contract.
-use native.Mathlib.Omega.{arith}
 use borrow.Author.Needs.{needs}
-use mathlib.Core.Path.{_≡_, refl, sym, _∙_}
+use mathlib.Core.Path.{sym}
 use Rattle.translator.specs.PageLaws.{stream-put}
 use Rattle.translator.proofs.write.put_stream.Statement.{statement}
 use Rattle.translator.proofs.write.put_stream.Tie as tie

@@ -1,7 +1,5 @@
 -- `write::put_term` meets its contract.
-use native.Mathlib.Omega.{arith}
 use borrow.Author.Needs.{needs}
-use mathlib.Core.Path.{_≡_, refl, sym, _∙_}
 use borrow.Author.Tests.{eq-eqb, ne-eqb}
 use Rattle.translator.proofs.write.put_term.Statement.{statement}
 use Rattle.translator.proofs.write.put_term.Tie as tie

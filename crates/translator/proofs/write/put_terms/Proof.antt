@@ -1,8 +1,7 @@
 -- `write::put_terms` meets its contract: what is left to write, written onto the page as it is, gives all.
 use native.Mathlib.Omega.{arith}
-use borrow.Author.Needs.{needs}
 use Prim.Native.Nat.{_-_}
-use mathlib.Core.Path.{_≡_, refl, sym, _∙_}
+use mathlib.Core.Path.{_≡_, sym, _∙_}
 use mathlib.Core.List.{map}
 use Rattle.translator.specs.NestSheets.{modifierOp, modifiersAt}
 use Rattle.translator.specs.Pages.{putAll}

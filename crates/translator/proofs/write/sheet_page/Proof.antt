@@ -1,7 +1,5 @@
 -- `write::sheet_page` meets its contract.
-use native.Mathlib.Omega.{arith}
 use borrow.Author.Needs.{needs}
-use mathlib.Core.Path.{_≡_, refl, sym, _∙_}
 use Rattle.translator.specs.PageLaws.{sheet-put}
 use Rattle.translator.proofs.write.sheet_page.Statement.{statement}
 use Rattle.translator.proofs.write.sheet_page.Tie as tie

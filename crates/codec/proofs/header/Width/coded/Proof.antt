@@ -1,5 +1,4 @@
 -- `Width::coded` meets its contract.
-use native.Mathlib.Omega.{arith}
 use Prim.Native.Nat.{ℕ, zero, suc}
 use mathlib.Core.Path.{_≡_, refl}
 use Rattle.codec.specs.Headers.{widthCoded}

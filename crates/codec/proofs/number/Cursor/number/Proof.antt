@@ -1,13 +1,9 @@
-use native.Mathlib.Omega.{arith}
 use borrow.Author.Needs.{needs}
 use borrow.Author.Tests.{lt-ltb, le-ltb}
 use mathlib.Core.Path.{sym, _∙_}
 use Rattle.codec.specs.Numbers.{numberAt}
 use Rattle.codec.proofs.number.Cursor.number.Statement.{statement}
 use Rattle.codec.proofs.number.Cursor.number.Tie as tie
-use Rattle.codec.proofs.number.Cursor.number.Reads as reads
-use Rattle.codec.proofs.number.Cursor.number.Lts as lts
-use Rattle.codec.proofs.number.groups.Reads as groups-reads
 
 -- src/number.rt:70:40
 groups-requires : tie.Need-groups-requires

@@ -1,4 +1,3 @@
-use native.Mathlib.Omega.{arith}
 use borrow.Author.Needs.{needs}
 use mir.Facts.{toZ-ofZ}
 use mir.Syntax.{w64}
@@ -6,10 +5,6 @@ use mathlib.Core.Path.{sym, _∙_}
 use Rattle.codec.specs.NumberLaws.{number-below}
 use Rattle.codec.proofs.number.Cursor.signed.Statement.{statement}
 use Rattle.codec.proofs.number.Cursor.signed.Tie as tie
-use Rattle.codec.proofs.number.Cursor.signed.Reads as reads
-use Rattle.codec.proofs.number.Cursor.signed.Lts as lts
-use Rattle.codec.proofs.number.Cursor.number.Reads as number-reads
-use Rattle.codec.proofs.number.signed_of.Reads as signed-of-reads
 
 -- src/number.rt:83:40
 number-requires : tie.Need-number-requires

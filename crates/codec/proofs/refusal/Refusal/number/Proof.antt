@@ -1,9 +1,6 @@
-use native.Mathlib.Omega.{arith}
 use borrow.Author.Needs.{needs}
 use Rattle.codec.proofs.refusal.Refusal.number.Statement.{statement}
 use Rattle.codec.proofs.refusal.Refusal.number.Tie as tie
-use Rattle.codec.proofs.refusal.Refusal.number.Reads as reads
-use Rattle.codec.proofs.refusal.Refusal.number.Lts as lts
 
 -- src/refusal.rt:48:35
 enum-told : tie.Need-enum-told

@@ -5,7 +5,6 @@
 --   gives-bytes                  their bytes
 --   offers-accepts               an operation that is not refused is accepted
 --   Turned, gives-turned         they are done in turn; their register has what they give, every other what it had
---   turns-append                 turns behind turns
 use Prim.Native.Nat.{ℕ, _+_, _<_}
 use mathlib.Core.Path.{_≡_, refl, sym, _∙_, subst}
 use mathlib.Core.Logic.{_≢_}
@@ -13,23 +12,23 @@ use mathlib.Core.List.{List, [], _∷_, _++_}
 use native.Mathlib.Omega.{arith}
 use lib.ListN.{length, length-set}
 use Rattle.codec.specs.NumberLaws.{Stands}
+use Rattle.codec.specs.StandingLaws.{stands-front, stands-back}
 use Rattle.codec.specs.HeaderLaws.{free-none}
-use Rattle.codec.specs.Operations.{operationBytes}
+use Rattle.codec.specs.Operations.{operationBytes, bytesOfAll}
+use Rattle.codec.specs.BytewiseLaws.{Bytewise, bytes-none, bytes-append, operation-bytes}
 use Rattle.codec.specs.declared.operation.Operation.{Operation}
 use Rattle.engine.specs.Checks.{firstOf}
 use Rattle.engine.specs.Registers.{reg}
 use Rattle.engine.specs.Configure.{registerOf, applied, whyNot}
 use Rattle.engine.specs.Allowed.{Accepts}
 use Rattle.engine.specs.AllowedLaws.{accepts-clear}
 use Rattle.engine.specs.Given.{Given, givenBy}
 use Rattle.engine.specs.GivenLaws.{Has, after-has, other-given}
 use Rattle.engine.specs.Offered.{checksGiven, offered}
+use Rattle.engine.specs.ReadingLaws.{in-range}
 use Rattle.engine.specs.Promise1.{Configures, InRange, after, Turns}
 use Rattle.engine.specs.declared.check.Why.the-variants.{Nothing}
 use Rattle.engine.specs.declared.register.Machine.{Machine}
-use Rattle.translator.specs.NestSheets.{bytesOfAll}
-use Rattle.translator.specs.NestNumbers.{stands-front, stands-back}
-use Rattle.translator.specs.ByteLaws.{Bytewise, bytes-none, bytes-append, operation-bytes}
 
 -- an operation of register i that is in range and not refused, after what was given for the register
 pub record Offers (i : ℕ) (g : Given) (o : Operation) : Type 0 where
@@ -59,7 +58,7 @@ pub gives-bytes : (i : ℕ) (g h : Given) (os : List Operation) → Gives i g os
 unfolding Gives bytesOfAll
 gives-bytes i g h [] p = bytes-none
 gives-bytes i g h (o ∷ os) p =
-    bytes-append (operation-bytes o (p .0 .range)) (gives-bytes i (givenBy i o g) h os (p .1))
+    bytes-append (operation-bytes o (in-range o .1 (p .0 .range))) (gives-bytes i (givenBy i o g) h os (p .1))
 
 -- an operation that is not refused, after what its register has, is accepted
 pub offers-accepts : (i : ℕ) (g : Given) (o : Operation) (m : Machine) → Offers i g o → Has g (reg m i) → Accepts o (reg m (registerOf o))
@@ -105,10 +104,3 @@ gives-turned s i below (o ∷ os) g h at to m all gives has stands =
       others = λ j x b n k. r .others j x b n
           (subst (λ y. Has y (reg (after o m) j)) (other-given j o x (λ e. n (e ∙ f .register))) (after-has o m j x (omega arith) a k));
     }
-
--- turns behind turns
-pub turns-append : (s : List ℕ) (at : ℕ) (m : Machine) (os : List Operation) (place : ℕ) (n : Machine) (ps : List Operation) (to : ℕ) (q : Machine)
-    → Turns s at m os place n → Turns s place n ps to q → Turns s at m (os ++ ps) to q
-unfolding Turns
-turns-append s at m [] place n ps to q (e, f) t = subst (λ k. Turns s k m ps to q) (sym e) (subst (λ k. Turns s place k ps to q) (sym f) t)
-turns-append s at m (o ∷ os) place n ps to q (next, w, a, r) t = (next, w, a, turns-append s next (after o m) os place n ps to q r t)
