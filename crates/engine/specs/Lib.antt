@@ -71,4 +71,6 @@ pub mod FieldLaws
 pub mod ReadingLaws
 pub mod StandLaws
 pub mod GivingLaws
+pub mod SameLoops
+pub mod InOrderLaws
 pub mod Table
