@@ -1,7 +1,7 @@
 -- Operations of one register that stand in a sheet, accepted in turn by what was given for the register so far.
 --
 --   Offers, Gives                an operation that is not refused; operations that lead from what was given to what is given then
---   gives-first, gives-append    one operation, then others; in two parts
+--   gives-none, gives-first, gives-append   none; one operation, then others; in two parts
 --   gives-bytes                  their bytes
 --   offers-accepts               an operation that is not refused is accepted
 --   Turned, gives-turned         they are done in turn; their register has what they give, every other what it had
@@ -41,6 +41,11 @@ pub record Offers (i : ℕ) (g : Given) (o : Operation) : Type 0 where
 unfoldable pub Gives : ℕ → Given → List Operation → Given → Type 0
 Gives i g [] h = g ≡ h
 Gives i g (o ∷ os) h = Offers i g o × Gives i (givenBy i o g) os h
+
+-- none
+pub gives-none : (i : ℕ) (g h : Given) → g ≡ h → Gives i g [] h
+unfolding Gives
+gives-none i g h e = e
 
 -- one operation, then others
 pub gives-first : (i : ℕ) (g h k : Given) (o : Operation) (os : List Operation) → Offers i g o → givenBy i o g ≡ h → Gives i h os k → Gives i g (o ∷ os) k

@@ -1,6 +1,6 @@
 -- Groups of any elements: what is left of them after some, position by position.
 --
---   join, join-append         lists joined
+--   join, join-none, join-next, join-append   lists joined: none, one and others, in two parts
 --   join-withElements         empty groups add nothing
 --   leftAfter-join            what is left of groups, joined, is what is left of their elements
 --   leftInGroup               how many elements are left of the group that a position stands in
@@ -26,6 +26,16 @@ use Rattle.engine.specs.Chunks.{withElements, leftAfter, nextGroup}
 unfoldable pub join : {A : Type 0} → List (List A) → List A
 join [] = []
 join (g ∷ gs) = g ++ join gs
+
+-- none
+pub join-none : {A : Type 0} → join {A = A} [] ≡ []
+unfolding join
+join-none = refl
+
+-- one, then others
+pub join-next : {A : Type 0} (g : List A) (gs : List (List A)) → join (g ∷ gs) ≡ g ++ join gs
+unfolding join
+join-next g gs = refl
 
 -- joined in two parts
 pub join-append : {A : Type 0} (gs hs : List (List A)) → join (gs ++ hs) ≡ join gs ++ join hs

@@ -71,6 +71,8 @@ pub mod FieldLaws
 pub mod ReadingLaws
 pub mod StandLaws
 pub mod GivingLaws
+pub mod SameLoops
+pub mod InOrderLaws
 pub mod Table
 pub mod Outlines
 pub mod OutlineLaws

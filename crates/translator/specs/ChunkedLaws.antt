@@ -10,10 +10,11 @@ use native.Mathlib.Omega.{arith}
 use lib.ListN.{length, take, drop, length-append, take-append-drop, List·getD-append}
 use lib.Seq.{drop-drop, drop-length, getD-append-add}
 use Rattle.engine.specs.Members.{Each, Ordered}
-use Rattle.engine.specs.GroupLaws.{join}
+use Rattle.engine.specs.GroupLaws.{join, join-none, join-next}
 use Rattle.engine.specs.ChunkLaws.{Covered, groups-join, chunkOf-front}
 use Rattle.engine.specs.InStep.{chunksDone}
 use Rattle.engine.specs.InStep as step
+use Rattle.engine.specs.InOrderLaws.{chunks-over, chunks-next, done-none, done-next}
 use Rattle.translator.specs.Nests.{countAt, visits, visited, plainOver, couplingOf, visitGroups}
 use Rattle.translator.specs.NestSheets.{shapeOf}
 use Rattle.translator.specs.Promise3.{Inside, Apart, NoneRead, Chunks, NoneReadInChunk}
@@ -47,37 +48,42 @@ plain-append m (u ∷ us) vs memory = plain-append m us vs (visited m memory u)
 -- chunks in order are the visits of all of them
 pub chunks-plain : (m : Nest) → m .loops ≤ 7 → (len : ℕ) (gs : List (List (List ℕ))) (memory : List ℕ) → Each [] (Inside m len) (join gs) → Each [] (NoneRead m) gs
     → chunksDone (threeOf m) memory gs ≡ plainOver m memory (join gs)
-unfolding chunksDone join plainOver
-chunks-plain m few len [] memory i h = refl
+unfolding plainOver
+chunks-plain m few len [] memory i h = done-none (threeOf m) memory ∙ ap (plainOver m memory) (sym join-none)
 chunks-plain m few len (vs ∷ gs) memory i h =
-    ap (λ y. chunksDone (threeOf m) y gs)
-    (one-chunk m few len vs memory (each-front [] vs (join gs) (Inside m len) i) (h 0 (omega arith)))
-    ∙ chunks-plain m few len gs (plainOver m memory vs) (each-back [] vs (join gs) (Inside m len) i) (λ g l. h (suc g) (omega arith))
+    let j : Each [] (Inside m len) (vs ++ join gs) = subst (Each [] (Inside m len)) (join-next vs gs) i in
+    done-next (threeOf m) memory vs gs
+    ∙ ap (λ y. chunksDone (threeOf m) y gs)
+    (one-chunk m few len vs memory (each-front [] vs (join gs) (Inside m len) j) (h 0 (omega arith)))
+    ∙ chunks-plain m few len gs (plainOver m memory vs) (each-back [] vs (join gs) (Inside m len) j) (λ g l. h (suc g) (omega arith))
     ∙ sym (plain-append m vs (join gs) memory)
+    ∙ ap (plainOver m memory) (sym (join-next vs gs))
 
 module _ (m : Nest) (covers : Covered (m .loops) (couplingOf (m .coupled))) (lanes : ℕ) where
   -- the chunks of the streams are those of the visits
   pub chunks-nest : (n : ℕ) (gs : List (List (List ℕ))) → step.Chunks (shapeOf m) lanes n gs → Chunks m lanes n gs
-  unfolding step.Chunks Chunks
-  chunks-nest n [] c = c ∙ ap length (visits-elements m)
-  chunks-nest n (vs ∷ gs) c = (c .0 ∙ chunk-same m covers lanes n, c .1, chunks-nest (n + length vs) gs (c .2))
+  unfolding Chunks
+  chunks-nest n [] c = chunks-over (shapeOf m) lanes n c ∙ ap length (visits-elements m)
+  chunks-nest n (vs ∷ gs) c =
+      let h = chunks-next (shapeOf m) lanes n vs gs c in
+      (h .0 ∙ chunk-same m covers lanes n, h .1, chunks-nest (n + length vs) gs (h .2))
 
   -- joined, they are the visits
   pub chunks-join : (n : ℕ) (gs : List (List (List ℕ))) → Chunks m lanes n gs → drop n (visits m) ≡ join gs
-  unfolding Chunks join visits
-  chunks-join n [] c = ap (λ k. drop k (visits m)) c ∙ drop-length (visits m)
+  unfolding Chunks visits
+  chunks-join n [] c = ap (λ k. drop k (visits m)) c ∙ drop-length (visits m) ∙ sym join-none
   chunks-join n (vs ∷ gs) c =
       let front : vs ≡ take (length vs) (drop n (visits m)) =
       rw (← c .0, groups-join (countAt m) (m .loops) (couplingOf (m .coupled)) covers) at (chunkOf-front (visitGroups m) lanes n) in
       sym (take-append-drop (length vs) (drop n (visits m)))
       ∙ ap₂ _++_ (sym front) (drop-drop (length vs) n (visits m) ∙ chunks-join (n + length vs) gs (c .2))
+      ∙ sym (join-next vs gs)
 
   -- of each of lists that are joined
   each-part : (gs : List (List (List ℕ))) → NoneRead m (join gs) → Each [] (NoneRead m) gs
-  unfolding join
   each-part [] h g l = absurd (omega arith)
-  each-part (vs ∷ gs) h zero l = ordered-front [] vs (join gs) (Apart m) h
-  each-part (vs ∷ gs) h (suc g) l = each-part gs (ordered-back [] vs (join gs) (Apart m) h) g (omega arith)
+  each-part (vs ∷ gs) h zero l = ordered-front [] vs (join gs) (Apart m) (subst (NoneRead m) (join-next vs gs) h)
+  each-part (vs ∷ gs) h (suc g) l = each-part gs (ordered-back [] vs (join gs) (Apart m) (subst (NoneRead m) (join-next vs gs) h)) g (omega arith)
 
   -- where no visit reads what an earlier one wrote, none reads what an earlier one of its chunk wrote
   pub none-in-chunk : NoneRead m (visits m) → NoneReadInChunk m lanes

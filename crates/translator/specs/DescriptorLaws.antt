@@ -2,30 +2,26 @@
 --
 --   couples                    the coupled loop is one of the dimensions
 --   count-size                 a loop's count is its dimension's size
---   loops-same, groups-same    loops and groups at the same sizes
 --   visits-elements, chunk-same   the visits are the elements, in the same chunks
 --   other-none, place-address  offsets and strides are as given; where an element lies
 use Prim.Native.Nat.{ℕ, zero, suc, _+_, _-_, _*_, _≤_, _<_}
 use mathlib.Core.Path.{_≡_, refl, sym, _∙_, ap, ap₂}
-use mathlib.Core.List.{List, [], _∷_, _++_, map}
+use mathlib.Core.List.{List, [], _∷_}
 use mathlib.Core.Bool.{false, cond, _&&_}
 use native.Mathlib.Omega.{arith}
 use lib.ListN.{length, getD, drop, getD-replicate}
 use lib.Dec.{eqb}
 use lib.IntN.{ℤ, pos, negsuc, negℤ, subℕ, _+ℤ_, _-ℤ_, _*ℤ_, +ℤ-assoc, +ℤ-comm, +ℤ-idl, +ℤ-idr, negℤ-+ℤ}
 use borrow.Author.Tests.{le-ltb}
-use Rattle.codec.specs.declared.header.Coupling.{Coupling}
-use Rattle.codec.specs.declared.header.Coupling.the-variants.{Uncoupled, Coupled}
 use Rattle.codec.specs.declared.operation.Parameter.{Parameter}
 use Rattle.codec.specs.declared.operation.Parameter.the-variants.{Size, Offset, Stride}
 use Rattle.codec.specs.declared.operation.Behaviour.the-variants.{Add, Subtract}
-use Rattle.engine.specs.Loops.{reach, ownerIndex, added, natural, sizeAt, span, loops, elements}
+use Rattle.engine.specs.Loops.{reach, ownerIndex, added, natural, sizeAt, elements}
 use Rattle.engine.specs.Loops
 use Rattle.engine.specs.Gains.{gain, sub-pos, added-gain}
 use Rattle.engine.specs.Registers.{noModifier}
-use Rattle.engine.specs.LoopLaws.{loops-length}
-use Rattle.engine.specs.Members.{Each}
-use Rattle.engine.specs.Chunks.{passes, withElements, groups, chunk, chunkOf}
+use Rattle.engine.specs.SameLoops.{loops-same, groups-same}
+use Rattle.engine.specs.Chunks.{chunk, chunkOf}
 use Rattle.engine.specs.ChunkLaws.{Covered}
 use Rattle.engine.specs.Addresses.{noBytes, noElements, inBytes, addressUpTo, address}
 use Rattle.engine.specs.Configure.{uncovered}
@@ -85,35 +81,6 @@ count-size m d outer e =
     ∙ sym (terms-total m d (suc d) outer))
 
 -- ---- visits
-
--- spans of the same
-span-same : {A : Type 0} (f g : ℕ → List A) (k n : ℕ) → ((i : ℕ) → f i ≡ g i) → span f k n ≡ span g k n
-unfolding span
-span-same f g k zero h = refl
-span-same f g k (suc n) h = ap₂ _++_ (h k) (span-same f g (suc k) n h)
-
-module _ (f g : ℕ → List ℕ → ℕ) (D : ℕ) (same : (d : ℕ) (outer : List ℕ) → suc d + length outer ≡ D → f d outer ≡ g d outer) where
-  -- loops at the same sizes
-  pub loops-same : (d n : ℕ) (outer : List ℕ) → d + n + length outer ≡ D → loops f d n outer ≡ loops g d n outer
-  unfolding loops
-  loops-same d zero outer e = refl
-  loops-same d (suc n) outer e =
-      ap (span (λ k. loops f d n (k ∷ outer)) 0) (same (d + n) outer (omega arith))
-      ∙ span-same _ _ 0 (g (d + n) outer) (λ k. loops-same d n (k ∷ outer) (omega arith))
-
-  -- the loops inside outer indices
-  map-same : (c : ℕ) (vs : List (List ℕ)) → Each [] (λ v. 0 + c + length v ≡ D) vs → map (loops f 0 c) vs ≡ map (loops g 0 c) vs
-  map-same c [] h = refl
-  map-same c (v ∷ vs) h = ap₂ _∷_ (loops-same 0 c v (h 0 (omega arith))) (map-same c vs (λ k l. h (suc k) (omega arith)))
-
-  -- groups at the same sizes
-  pub groups-same : (k : Coupling) → Covered D k → groups f D k ≡ groups g D k
-  unfolding groups passes
-  groups-same Uncoupled h = ap (λ l. withElements (l ∷ [])) (loops-same 0 D [] (omega arith))
-  groups-same (Coupled c) h =
-      ap withElements
-      (ap (map (loops f 0 c)) (loops-same c (D - c) [] (omega arith))
-      ∙ map-same c (loops g c (D - c) []) (λ j l. omega (arith, loops-length g c (D - c) [] j l)))
 
 module _ (m : Nest) where
   -- counts and sizes

@@ -35,7 +35,7 @@ use Rattle.translator.specs.KeptRules.{low-high-kept}
 use Rattle.translator.specs.RuleLaws.{highs-same, low-high-same}
 use Rattle.translator.specs.DescriptorLaws.{couples}
 use Rattle.translator.specs.PatternLaws.{dimensions-long, TidyAccess, pattern-same}
-use Rattle.engine.specs.GivingLaws.{Offers, Gives, gives-first, gives-append}
+use Rattle.engine.specs.GivingLaws.{Offers, Gives, gives-none, gives-first, gives-append}
 use Rattle.translator.specs.declared.nest.Access.{Access}
 use Rattle.translator.specs.declared.nest.Nest.{Nest}
 
@@ -61,9 +61,10 @@ module _ (m : Nest) (range : InRange m) (i : ℕ) (low : i ≤ 31) where
   -- the modifiers of dimension o, for n targets from t on
   at-gives : (o t n : ℕ) (s : Stream) → t + n ≡ o → o < m .loops → length (s .dimensions) ≡ suc o → length (s .modifiers) + length (modifiersAt m o t n) ≤ 8
       → Gives i (going s) (map (modifierOp i) (modifiersAt m o t n)) (going (plusModifiers s (modifiersAt m o t n)))
-  unfolding modifiersAt Gives
+  unfolding modifiersAt
   at-gives o t zero s e k l f =
-      ap (λ qs. going (record { header = s .header; base = s .base; dimensions = s .dimensions; modifiers = qs })) (sym (append-nil (s .modifiers)))
+      gives-none i _ _
+      (ap (λ qs. going (record { header = s .header; base = s .base; dimensions = s .dimensions; modifiers = qs })) (sym (append-nil (s .modifiers))))
   at-gives o t (suc n) s e k l f = go (eqb (natAbs (termOf m t o)) 0) f (at-gives o (suc t) n)
     where
       rest : List Modifier
@@ -101,9 +102,10 @@ module _ (m : Nest) (range : InRange m) (i : ℕ) (low : i ≤ 31) where
     -- n dimensions from d on, each with its modifiers
     dimensions-give : (d n : ℕ) (s : Stream) → d + n ≡ m .loops → length (s .dimensions) ≡ d → length (s .modifiers) + length (modifiersFrom m d n) ≤ 8
         → Gives i (going s) (dimensionOps m i a d n) (going (extended s (dimensionsFrom m i a d n) (modifiersFrom m d n)))
-    unfolding dimensionOps dimensionsFrom modifiersFrom Gives
+    unfolding dimensionOps dimensionsFrom modifiersFrom
     dimensions-give d zero s e l f =
-        λ j. going (record { header = s .header; base = s .base; dimensions = sym (append-nil (s .dimensions)) j; modifiers = sym (append-nil (s .modifiers)) j })
+        gives-none i _ _
+        (λ j. going (record { header = s .header; base = s .base; dimensions = sym (append-nil (s .dimensions)) j; modifiers = sym (append-nil (s .modifiers)) j }))
     dimensions-give d (suc n) s e l f =
         let x : Dimension = dimensionOf m i a d in
         let mine : List Modifier = modifiersAt m d 0 d in
@@ -197,10 +199,9 @@ module _ (m : Nest) (ac : Accepted m) (i : ℕ) (low : i ≤ 31) (kind : Kind) (
 
   -- open, the dimensions with their modifiers, end: none is refused
   pub stream-gives : Gives i none (streamOps m i kind a) (ended s)
-  unfolding Gives
   stream-gives =
       gives-append i none (going s) (ended s) (op.Open (headerFor m i kind) (a .base) ∷ dimensionOps m i a 0 (m .loops)) (op.End i ∷ [])
       (gives-first i none (going opened) (going s) (op.Open (headerFor m i kind) (a .base)) (dimensionOps m i a 0 (m .loops)) open-offers
       (rw (eq-eqb i i refl))
       (dimensions-give m (ac .range) i low a (t .range) 0 (m .loops) opened (omega arith) refl (omega (arith, bounded m ac .few))))
-      (gives-first i (going s) (ended s) (ended s) (op.End i) [] end-offers (rw (eq-eqb i i refl)) refl)
+      (gives-first i (going s) (ended s) (ended s) (op.End i) [] end-offers (rw (eq-eqb i i refl)) (gives-none i (ended s) (ended s) refl))
