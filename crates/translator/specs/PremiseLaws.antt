@@ -14,12 +14,12 @@ use lib.Dec.{ltb, leb→le, le→leb, lt→ltb}
 use lib.IntN.{ℤ, pos, negsuc, _+ℤ_}
 use lib.Signed.{_≤ℤ_, _<ℤ_, leZ, leZ-yes, <ℤ-≤ℤ-trans, clashℤ}
 use borrow.Author.Tests.{ltb-true}
+use Rattle.codec.specs.TestLaws.{both}
 use Rattle.codec.specs.NumberLaws.{areBytes}
 use Rattle.engine.specs.Members.{Each, Ordered}
 use Rattle.engine.specs.LoopLaws.{Within, loops-within}
 use Rattle.engine.specs.Allowed.{Lies}
 use Rattle.engine.specs.AllowedLaws.{test-plain}
-use Rattle.engine.specs.CalculationLaws.{both}
 use Rattle.translator.specs.Nests.{countAt, visits, widthOf, placeOf}
 use Rattle.translator.specs.Reading.{nest, nestAt}
 use Rattle.translator.specs.Promise3.{Inside, Byte, Apart}
