@@ -5,18 +5,22 @@
 //! - `stream`       loops, elements, chunks, flags
 //! - `model`        registers, operations, runs of sheets
 //! - `calculation`  one calculation
-//! - `notes`        events of a calculation
+//! - `notes`        the events of a calculation
 //! - `report`       what a sheet came to, in the form of the engine's report
 //! - `nest`         loop nests: the translation, and the plain loop
+//! - `random`       a seeded source of numbers
+//! - `generate`     sheets and nests: valid, near-valid, damaged, extreme
 
 pub mod calculation;
 pub mod clauses;
+pub mod generate;
 pub mod model;
+pub mod nest;
 mod notes;
 pub mod numbers;
-pub mod stream;
-pub mod nest;
+pub mod random;
 pub mod report;
+pub mod stream;
 
 #[cfg(test)]
 mod examples;

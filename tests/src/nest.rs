@@ -178,12 +178,12 @@ impl Nest {
         numbers.extend([4, register]);
     }
 
-    /// Shows the index of each visit to `see`, in order.
-    pub fn visits(&self, see: &mut dyn FnMut(&[i64; 7])) {
+    /// Shows the index of each visit to `see`, in order, until it answers false.
+    pub fn visits(&self, see: &mut dyn FnMut(&[i64; 7]) -> bool) {
         self.visits_inside(self.loops.len(), &mut [0; 7], see);
     }
 
-    fn visits_inside(&self, depth: usize, index: &mut [i64; 7], see: &mut dyn FnMut(&[i64; 7])) {
+    fn visits_inside(&self, depth: usize, index: &mut [i64; 7], see: &mut dyn FnMut(&[i64; 7]) -> bool) -> bool {
         let Some(this) = depth.checked_sub(1) else {
             return see(index);
         };
@@ -193,8 +193,11 @@ impl Nest {
         }
         for k in 0..count {
             index[this] = k;
-            self.visits_inside(this, index, see);
+            if !self.visits_inside(this, index, see) {
+                return false;
+            }
         }
+        true
     }
 
     pub fn address(&self, operand: usize, index: &[i64; 7]) -> i64 {
@@ -206,8 +209,7 @@ impl Nest {
 /// How the plain loop went.
 #[derive(Clone, Copy, PartialEq, Eq, Debug)]
 pub struct Went {
-    pub visits: u64,
-    /// All visits lie inside memory; else the memory is worth nothing.
+    /// All visits lie inside memory; else the loop was left at the first that does not.
     pub inside: bool,
     /// Some visit reads a byte that an earlier one wrote.
     pub reads_written: bool,
@@ -215,21 +217,21 @@ pub struct Went {
 
 /// The plain loop: destination = operation of both sources, visit by visit.
 pub fn plain_loop(nest: &Nest, memory: &mut [u8]) -> Went {
-    let mut went = Went { visits: 0, inside: true, reads_written: false };
+    let mut went = Went { inside: true, reads_written: false };
     let mut written = vec![false; memory.len()];
     nest.visits(&mut |index| {
-        went.visits += 1;
         let width = nest.width;
         let addresses = [0, 1, 2].map(|operand| nest.address(operand, index));
-        if !went.inside || addresses.iter().any(|&at| at < 0 || at + width as i64 > memory.len() as i64) {
+        if addresses.iter().any(|&at| at < 0 || at + width as i64 > memory.len() as i64) {
             went.inside = false;
-            return;
+            return false;
         }
         let [first, second, destination] = addresses.map(|at| at as usize..at as usize + width);
         went.reads_written |= written[first.clone()].contains(&true) || written[second.clone()].contains(&true);
         let result = lane(nest.operation, width, value(&memory[first]), value(&memory[second]));
         memory[destination.clone()].copy_from_slice(&result.to_le_bytes()[..width]);
         written[destination].fill(true);
+        true
     });
     went
 }
