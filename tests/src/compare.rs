@@ -235,3 +235,17 @@ fn runs_of(nest: &nest::Nest, input: &NestInput, random: &mut Random, tally: &mu
     }
     Ok(())
 }
+
+/// Slices of no bytes at all.
+pub fn nothing() -> Result<(), String> {
+    let answers = [
+        ("an empty sheet on no memory", engine::run(&[], 8, &mut [], &mut [0; report::BYTES]), 0),
+        ("an empty sheet without a report", engine::run(&[], 8, &mut [], &mut []), u64::MAX),
+        ("an empty nest in no room", engine::translate(&[], &mut [], &mut [0; 24]), 1),
+        ("an empty nest without a report", engine::translate(&[], &mut [], &mut []), u64::MAX),
+    ];
+    match answers.iter().find(|(_, answer, expected)| answer != expected) {
+        None => Ok(()),
+        Some((what, answer, expected)) => Err(format!("{what}: {answer}, expected {expected}")),
+    }
+}

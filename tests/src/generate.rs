@@ -4,6 +4,7 @@ pub mod body;
 pub mod damage;
 pub mod draft;
 pub mod extreme;
+pub mod fixed;
 pub mod nests;
 pub mod plan;
 pub mod soup;

@@ -13,7 +13,7 @@ use std::time::Instant;
 
 use compare::Tally;
 use tests::clauses::{Clause, Event, Hits};
-use tests::generate::{self, nests, Style};
+use tests::generate::{self, fixed, nests, Style};
 use tests::random::Random;
 
 struct Options {
@@ -71,6 +71,25 @@ impl Check {
         Ok(inputs.len())
     }
 
+    /// The inputs that do not come from a seed.
+    fn fixed(&mut self) -> usize {
+        let (sheets, nests) = (fixed::sheets(), fixed::nests());
+        let mut outcomes = vec![("slices of no bytes", 0, compare::nothing())];
+        for (number, input) in sheets.iter().enumerate() {
+            outcomes.push(("sheet", number, compare::sheet(input, &mut Random::new(0, number as u64), &mut self.tally)));
+        }
+        for (number, input) in nests.iter().enumerate() {
+            outcomes.push(("nest", number, compare::nest(input, &mut Random::new(0, number as u64), &mut self.tally)));
+        }
+        for (what, number, outcome) in outcomes {
+            if let Err(difference) = outcome {
+                self.differences += 1;
+                println!("DIFFERS: fixed {what} {number}: {difference}");
+            }
+        }
+        sheets.len() + nests.len()
+    }
+
     fn sheet(&mut self, number: u64) {
         let seed = self.options.seed;
         let input = generate::sheet(seed, number);
@@ -111,9 +130,9 @@ impl Check {
         }
     }
 
-    fn print(&self, kept: usize, seconds: f64) {
+    fn print(&self, kept: usize, fixed: usize, seconds: f64) {
         let tally = &self.tally;
-        println!("kept inputs: {kept}");
+        println!("kept inputs: {kept}, fixed inputs: {fixed}");
         println!("sheets: {}, {} of all runs refused", tally.sheets, tally.refused);
         for style in Style::ALL {
             println!("    {style:?}: {}", self.styles[style as usize]);
@@ -176,8 +195,9 @@ fn checked() -> Result<bool, String> {
         return Ok(check.differences == 0);
     }
     let kept = check.kept()?;
+    let fixed = check.fixed();
     check.all();
-    check.print(kept, began.elapsed().as_secs_f64());
+    check.print(kept, fixed, began.elapsed().as_secs_f64());
     let never = never_reached(&check.tally.hits);
     for line in &never {
         println!("{line}");

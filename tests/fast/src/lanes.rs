@@ -42,65 +42,47 @@ pub fn calculate(operation: u8, code: u8, a: &Lanes, b: &Lanes) -> Lanes {
     }
 }
 
-/// Copies lanes between memory and register one by one, `address` giving where each lies.
-macro_rules! copy_each {
-    ($bytes:literal, $n:expr, $address:expr, |$at:ident, $lane:ident| $copy:expr) => {
-        for i in 0..$n {
-            let $at = $address(i) as usize..$address(i) as usize + $bytes;
-            let $lane = $bytes * i..$bytes * i + $bytes;
-            $copy;
+/// Copies the lanes of each stretch, all at once where they lie side by side in memory: place there, place in the register, bytes.
+macro_rules! each_stretch {
+    ($bytes:literal, $ahead:ident, $copy:expr) => {{
+        let mut lane = 0;
+        for stretch in $ahead.stretches() {
+            let start = stretch.start as usize;
+            if stretch.step == $bytes {
+                $copy(start, lane, $bytes * stretch.count);
+                lane += $bytes * stretch.count;
+            } else {
+                let mut at = stretch.start;
+                for _ in 0..stretch.count {
+                    $copy(at as usize, lane, $bytes);
+                    at += stretch.step;
+                    lane += $bytes;
+                }
+            }
         }
-    };
+    }};
 }
 
 /// The lanes at the elements looked at, which lie inside memory.
 pub fn gather(memory: &[u8], code: u8, ahead: &Ahead) -> Lanes {
     let mut lanes = [0; 64];
-    if !ahead.scattered && ahead.step == 1 << code {
-        let bytes = ahead.n << code;
-        lanes[..bytes].copy_from_slice(&memory[ahead.start as usize..][..bytes]);
-        return lanes;
-    }
-    macro_rules! take {
-        ($bytes:literal) => {
-            if ahead.scattered {
-                copy_each!($bytes, ahead.n, |i: usize| ahead.addresses[i], |at, lane| lanes[lane].copy_from_slice(&memory[at]))
-            } else {
-                copy_each!($bytes, ahead.n, |i: usize| ahead.start + i as i64 * ahead.step, |at, lane| lanes[lane]
-                    .copy_from_slice(&memory[at]))
-            }
-        };
-    }
+    let mut copy = |at: usize, lane: usize, bytes: usize| lanes[lane..lane + bytes].copy_from_slice(&memory[at..at + bytes]);
     match code {
-        0 => take!(1),
-        1 => take!(2),
-        2 => take!(4),
-        _ => take!(8),
+        0 => each_stretch!(1, ahead, copy),
+        1 => each_stretch!(2, ahead, copy),
+        2 => each_stretch!(4, ahead, copy),
+        _ => each_stretch!(8, ahead, copy),
     }
     lanes
 }
 
 /// Writes lanes at the elements looked at, in lane order.
 pub fn scatter(memory: &mut [u8], code: u8, ahead: &Ahead, lanes: &Lanes) {
-    if !ahead.scattered && ahead.step == 1 << code {
-        let bytes = ahead.n << code;
-        memory[ahead.start as usize..][..bytes].copy_from_slice(&lanes[..bytes]);
-        return;
-    }
-    macro_rules! give {
-        ($bytes:literal) => {
-            if ahead.scattered {
-                copy_each!($bytes, ahead.n, |i: usize| ahead.addresses[i], |at, lane| memory[at].copy_from_slice(&lanes[lane]))
-            } else {
-                copy_each!($bytes, ahead.n, |i: usize| ahead.start + i as i64 * ahead.step, |at, lane| memory[at]
-                    .copy_from_slice(&lanes[lane]))
-            }
-        };
-    }
+    let mut copy = |at: usize, lane: usize, bytes: usize| memory[at..at + bytes].copy_from_slice(&lanes[lane..lane + bytes]);
     match code {
-        0 => give!(1),
-        1 => give!(2),
-        2 => give!(4),
-        _ => give!(8),
+        0 => each_stretch!(1, ahead, copy),
+        1 => each_stretch!(2, ahead, copy),
+        2 => each_stretch!(4, ahead, copy),
+        _ => each_stretch!(8, ahead, copy),
     }
 }

@@ -36,14 +36,21 @@ pub struct Stream {
     pub modifier: [Modifier; MODIFIERS],
 }
 
-/// Elements looked at and not yet moved: either `n` of them from `start` on in steps of `step`, or those in `addresses`.
-pub struct Ahead {
-    pub n: usize,
+/// Elements one after another, a step apart.
+#[derive(Clone, Copy)]
+pub struct Stretch {
     pub start: i64,
     pub step: i64,
-    pub scattered: bool,
-    pub addresses: [i64; 64],
-    /// The walk behind the elements, and the highest dimension that stepped; only if scattered.
+    pub count: usize,
+}
+
+/// Elements looked at and not yet moved: `n` of them, in stretches.
+pub struct Ahead {
+    pub n: usize,
+    count: usize,
+    stretch: [Stretch; 64],
+    /// The walk behind the elements, and the highest dimension that stepped; only if there was a look beyond the present pass.
+    beyond: bool,
     walk: Walk,
     highest: usize,
 }
@@ -52,20 +59,18 @@ pub const STILL: Walk = Walk { index: [0; 7], size: [0; 7], offset: [0; 7], step
 
 impl Ahead {
     pub fn none() -> Ahead {
-        Ahead { n: 0, start: 0, step: 0, scattered: false, addresses: [0; 64], walk: STILL, highest: 0 }
+        let stretch = [Stretch { start: 0, step: 0, count: 0 }; 64];
+        Ahead { n: 0, count: 0, stretch, beyond: false, walk: STILL, highest: 0 }
+    }
+
+    pub fn stretches(&self) -> &[Stretch] {
+        &self.stretch[..self.count]
     }
 
     /// Whether all elements lie inside a memory.
     pub fn inside(&self, width: i64, memory: i64) -> bool {
-        if self.n == 0 {
-            return true;
-        }
         let fits = |address: i64| address >= 0 && address + width <= memory;
-        if self.scattered {
-            self.addresses[..self.n].iter().all(|&address| fits(address))
-        } else {
-            fits(self.start) && fits(self.start + (self.n as i64 - 1) * self.step)
-        }
+        self.stretches().iter().all(|stretch| fits(stretch.start) && fits(stretch.start + (stretch.count as i64 - 1) * stretch.step))
     }
 }
 
@@ -140,38 +145,38 @@ impl Stream {
     /// Looks at the next elements, up to `want` and no further than the end of the stream or of the coupled pass.
     pub fn look(&self, want: usize, ahead: &mut Ahead) {
         let left = (self.walk.size[0] - self.walk.index[0]) as usize;
-        if left >= want || self.coupled == 1 {
-            ahead.n = left.min(want);
-            ahead.start = self.walk.at[0];
-            ahead.step = self.walk.step[0];
-            ahead.scattered = false;
-            return;
+        ahead.beyond = left < want && self.coupled != 1;
+        if ahead.beyond {
+            return self.look_beyond(want, ahead);
         }
-        ahead.scattered = true;
+        ahead.n = left.min(want);
+        ahead.count = 1;
+        ahead.stretch[0] = Stretch { start: self.walk.at[0], step: self.walk.step[0], count: ahead.n };
+    }
+
+    fn look_beyond(&self, want: usize, ahead: &mut Ahead) {
+        ahead.n = 0;
+        ahead.count = 0;
         ahead.walk = self.walk;
         let walk = &mut ahead.walk;
-        let dimensions = self.dimensions as usize;
-        let mut n = 0;
         loop {
-            let take = ((walk.size[0] - walk.index[0]) as usize).min(want - n);
-            for address in &mut ahead.addresses[n..n + take] {
-                *address = walk.at[0];
-                walk.at[0] += walk.step[0];
-            }
-            walk.index[0] += take as i32;
-            n += take;
+            let count = ((walk.size[0] - walk.index[0]) as usize).min(want - ahead.n);
+            ahead.stretch[ahead.count] = Stretch { start: walk.at[0], step: walk.step[0], count };
+            ahead.count += 1;
+            ahead.n += count;
+            walk.index[0] += count as i32;
+            walk.at[0] += count as i64 * walk.step[0];
             ahead.highest = if walk.index[0] < walk.size[0] { 0 } else { self.seek(walk, true) };
-            let ends = ahead.highest == dimensions || self.coupled != 0 && ahead.highest >= self.coupled as usize;
-            if n == want || ends {
-                break;
+            let ends = ahead.highest == self.dimensions as usize || self.coupled != 0 && ahead.highest >= self.coupled as usize;
+            if ahead.n == want || ends {
+                return;
             }
         }
-        ahead.n = n;
     }
 
     /// Moves over the elements looked at; answers whether the stream goes on.
     pub fn advance(&mut self, ahead: &Ahead) -> bool {
-        let highest = if ahead.scattered {
+        let highest = if ahead.beyond {
             self.walk = ahead.walk;
             ahead.highest
         } else {

@@ -27,6 +27,8 @@ pub enum Scuff {
     Swap,
     NoRun,
     NoEnd,
+    /// This register is opened, and no more.
+    Configuring(u64),
 }
 
 impl Draft {
@@ -102,7 +104,22 @@ impl Draft {
             let plain = random.pick(&self.cast.plains);
             self.body.push([random.below(8), random.pick(&self.cast.plains), plain, plain]);
         }
+        if random.one_in(12) {
+            self.store_nothing(random);
+        }
         self.body.truncate(16);
+    }
+
+    /// A line stores the lanes of a register that has none.
+    fn store_nothing(&mut self, random: &mut Random) {
+        let fresh = (0..32).find(|register| {
+            let named = self.body.iter().any(|line| line[1..].contains(register));
+            !named && self.plans.iter().all(|plan| plan.register != *register)
+        });
+        if let (Some(fresh), Some(&store)) = (fresh, self.cast.stores.first()) {
+            let place = random.place(self.body.len() + 1);
+            self.body.insert(place, [0, store, fresh, fresh]);
+        }
     }
 
     /// All operations and the run.
@@ -136,7 +153,7 @@ impl Draft {
 
     fn disturb_once(&mut self, random: &mut Random) {
         let at = random.place(self.plans.len());
-        match random.below(28) {
+        match random.below(30) {
             0..=3 => self.memory -= random.range(1, self.memory.clamp(1, 24)),
             4 => self.memory = random.range(0, self.memory.max(0)),
             5 => self.plans[at].base = (self.plans[at].base + random.range(-20, 20)).max(0),
@@ -159,6 +176,7 @@ impl Draft {
             24 => self.write_again(random),
             25 => self.open_anew(random, at),
             26 => self.plans[at].register = random.below(32),
+            27 | 28 => self.crooked(random),
             _ => self.body = wild(random, &self.cast),
         }
     }
@@ -249,6 +267,25 @@ impl Draft {
         plan.modifiers.sort_by_key(|modifier| modifier.owner);
     }
 
+    /// One more stream is left being configured and one is finished, and one line may name any register in any role: faults that come
+    /// together, of which the first counts.
+    fn crooked(&mut self, random: &mut Random) {
+        let free: Vec<u64> = (0..32).filter(|register| self.plans.iter().all(|plan| plan.register != *register)).collect();
+        let mut finished = self.plans[random.place(self.plans.len())].clone();
+        finished.register = free[0];
+        finished.kind = random.pick(&[Kind::Load, Kind::Store]);
+        self.plans.push(finished);
+        self.empty(self.plans.len() - 1);
+        let mut names: Vec<u64> = self.plans.iter().map(|plan| plan.register).collect();
+        names.extend([free[1], free[1], free[2]]);
+        self.scuffs.push(Scuff::Configuring(free[1]));
+        let (first, destination) = (random.pick(&names), random.pick(&names));
+        let second = if random.one_in(3) { first } else { random.pick(&names) };
+        let place = random.place(self.body.len() + 1);
+        self.body.insert(place, [random.range(1, 7) as u64, destination, first, second]);
+        self.body.truncate(16);
+    }
+
     /// Before a stream, its register has another without elements: opened, finished, and opened anew.
     fn open_anew(&mut self, random: &mut Random, at: usize) {
         let mut before = self.plans[at].clone();
@@ -272,6 +309,7 @@ fn scuffed(random: &mut Random, operations: &mut Vec<Numbers>, scuff: Scuff) {
         Scuff::Repeat => operations.insert(at, operations[other].clone()),
         Scuff::Swap => operations.swap(at, other),
         Scuff::NoRun => drop(operations.pop()),
+        Scuff::Configuring(register) => operations.insert(0, vec![1, 0x0b + (register << 7) + (random.below(8) << 12), 0]),
         Scuff::NoEnd => {
             let ends: Vec<usize> = (0..operations.len()).filter(|&at| operations[at][0] == 4).collect();
             if !ends.is_empty() {

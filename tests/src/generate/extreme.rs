@@ -58,7 +58,7 @@ fn shrinks(owner: usize, target: usize, displacement: i64) -> Modifier {
 /// Shapes on both sides of the rules 8 and 9.
 fn edge_shape(random: &mut Random) -> Shape {
     let one = random.range(-1, 1);
-    let (sizes, modifiers) = match random.below(14) {
+    let (sizes, modifiers) = match random.below(20) {
         0 => (vec![1_024, 1_024 + one], vec![]),
         1 => (vec![4_096, 256 + one], vec![]),
         2 => (vec![4_096], vec![]),
@@ -72,7 +72,14 @@ fn edge_shape(random: &mut Random) -> Shape {
         10 => (vec![1, 2, 2], vec![grows(3, 2, 62), grows(2, 1, 64 + one)]),
         11 => (vec![0, 0, 4_096], vec![grows(3, 2, 1), grows(2, 1, 1)]),
         12 => (vec![2, 2, 2, 2, 2, 2, 2], vec![grows(7, 6, MOST), grows(6, 5, MOST), grows(5, 4, MOST), grows(4, 3, MOST), grows(3, 2, MOST)]),
-        _ => (vec![0, 4_096, 256 + one], vec![]),
+        13 => (vec![0, 4_096, 256 + one], vec![]),
+        // An owner of size 0 or 1 reaches nowhere, and the rules hold though there is no element.
+        14 => (vec![1_024, 1_024 + one, 0], vec![grows(3, 2, 1)]),
+        15 => (vec![1_024 + one, 1_024, random.range(0, 1)], vec![grows(3, 1, 1), shrinks(3, 2, 1_024)]),
+        16 => (vec![random.range(0, 2), 0], vec![shrinks(2, 1, 2)]),
+        17 => (vec![4_096, random.range(0, 2)], vec![grows(2, 1, 1)]),
+        18 => (vec![4_095, 2, 0], vec![grows(2, 1, 1 + one), grows(3, 2, 1)]),
+        _ => (vec![2, 4_097 - random.range(1, 4), 1], vec![grows(3, 2, 3), shrinks(2, 1, 0)]),
     };
     Shape { sizes, modifiers }
 }
