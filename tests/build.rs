@@ -4,10 +4,8 @@ use std::env;
 use std::path::PathBuf;
 
 fn main() {
-    let library = env::var("UVE_LIBRARY").map_or_else(
-        |_| PathBuf::from(env::var("CARGO_MANIFEST_DIR").unwrap()).join("../target/staticlib/libuve.a"),
-        PathBuf::from,
-    );
+    let library = env::var("UVE_LIBRARY")
+        .map_or_else(|_| PathBuf::from(env::var("CARGO_MANIFEST_DIR").unwrap()).join("../target/staticlib/libuve.a"), PathBuf::from);
     println!("cargo:rerun-if-env-changed=UVE_LIBRARY");
     println!("cargo:rerun-if-changed={}", library.display());
     println!("cargo:rustc-link-arg-bins={}", library.display());

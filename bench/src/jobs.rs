@@ -223,7 +223,14 @@ pub const JOBS: [Job; 9] = [
     Job { name: "add of words", vl: 64, sizes: [2, 4], sheet: add, plain: add_plain, elements: |size| 1_024 * size },
     Job { name: "2-D with stride", vl: 64, sizes: [64, 128], sheet: strided, plain: strided_plain, elements: |size| 128 * size },
     Job { name: "triangle", vl: 64, sizes: [127, 180], sheet: triangle, plain: triangle_plain, elements: |size| size * (size + 1) / 2 },
-    Job { name: "coupled rows of 5 pixels", vl: 64, sizes: [2_048, 4_096], sheet: short_rows, plain: short_rows_plain, elements: |size| 5 * size },
+    Job {
+        name: "coupled rows of 5 pixels",
+        vl: 64,
+        sizes: [2_048, 4_096],
+        sheet: short_rows,
+        plain: short_rows_plain,
+        elements: |size| 5 * size,
+    },
     Job { name: "seven dimensions", vl: 64, sizes: [4, 8], sheet: seven, plain: seven_plain, elements: |size| 4_096 * size },
     Job {
         name: "long empty triangle (iterations)",

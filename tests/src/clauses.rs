@@ -244,11 +244,7 @@ pub struct Hits {
 
 impl Hits {
     pub fn none() -> Hits {
-        Hits {
-            clauses: vec![0; Clause::ALL.len()],
-            later: vec![0; Clause::ALL.len()],
-            events: vec![0; Event::ALL.len()],
-        }
+        Hits { clauses: vec![0; Clause::ALL.len()], later: vec![0; Clause::ALL.len()], events: vec![0; Event::ALL.len()] }
     }
 
     pub fn refused(&mut self, clause: Clause, passes: u64) {
@@ -270,6 +266,8 @@ impl Hits {
 /// The events of one sheet.
 #[derive(Clone, Default)]
 pub struct Seen(u64);
+
+const _: () = assert!(Event::ALL.len() <= 64);
 
 impl Seen {
     pub fn mark(&mut self, event: Event) {

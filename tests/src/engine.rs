@@ -11,14 +11,7 @@ extern "C" {
         report_length: usize,
     ) -> u64;
 
-    fn uve_translate(
-        nest: *const u8,
-        nest_length: usize,
-        room: *mut u8,
-        room_length: usize,
-        report: *mut u8,
-        report_length: usize,
-    ) -> u64;
+    fn uve_translate(nest: *const u8, nest_length: usize, room: *mut u8, room_length: usize, report: *mut u8, report_length: usize) -> u64;
 }
 
 /// Runs a sheet. Answers the refusal's number, 0 for none, or 2^64 - 1 if the report is too short.

@@ -95,7 +95,8 @@ pub fn vector_length(random: &mut Random) -> u64 {
 fn lengths(random: &mut Random, vl: u64, memory: usize) -> (u64, usize) {
     match random.below(400) {
         0..=3 => {
-            let edges = [0, 1, 4, 7, 9, 12, 15, 17, 63, 65, 68, 72, 80, 128, 4_096, 1 << 32, (1 << 32) + 8, 1 << 63, u64::MAX - 7, u64::MAX];
+            let edges =
+                [0, 1, 4, 7, 9, 12, 15, 17, 63, 65, 68, 72, 80, 128, 4_096, 1 << 32, (1 << 32) + 8, 1 << 63, u64::MAX - 7, u64::MAX];
             (random.pick(&edges), memory)
         }
         4 => (random.below(80), memory),

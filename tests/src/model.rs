@@ -68,14 +68,8 @@ pub struct Machine<'a> {
 /// Runs a sheet.
 pub fn run(sheet: &[u8], vl: u64, memory: &mut [u8]) -> Answer {
     let memory_length = memory.len();
-    let mut machine = Machine {
-        vl: vl as usize,
-        memory,
-        registers: vec![Register::fresh(); 32],
-        passes: 0,
-        calculations: 0,
-        seen: Seen::default(),
-    };
+    let mut machine =
+        Machine { vl: vl as usize, memory, registers: vec![Register::fresh(); 32], passes: 0, calculations: 0, seen: Seen::default() };
     let done = if !(8..=64).contains(&vl) || vl % 8 != 0 {
         Err(Refusal { clause: Clause::VectorLength, place: 0 })
     } else if memory_length > 65_536 {

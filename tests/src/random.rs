@@ -21,7 +21,7 @@ impl Random {
 
     /// A number below `count`.
     pub fn below(&mut self, count: u64) -> u64 {
-        (u128::from(self.next()) * u128::from(count) >> 64) as u64
+        ((u128::from(self.next()) * u128::from(count)) >> 64) as u64
     }
 
     /// A number from `least` to `most`.
@@ -55,7 +55,8 @@ impl Random {
         while bytes.len() < length {
             let mut word = self.next();
             if word % 4 == 0 {
-                word = self.pick(&[0, u64::MAX, 0x8000_0000_0000_0000, 0x7fff_ffff_ffff_ffff, 0x0080_0100_8000_7f01, 0x7f80_ff00_0000_0001]);
+                word =
+                    self.pick(&[0, u64::MAX, 0x8000_0000_0000_0000, 0x7fff_ffff_ffff_ffff, 0x0080_0100_8000_7f01, 0x7f80_ff00_0000_0001]);
             }
             bytes.extend(word.to_le_bytes());
         }

@@ -62,17 +62,7 @@ pub struct Stream {
 
 impl Stream {
     pub fn new(kind: Kind, width: i64, coupled: usize, base: i64) -> Stream {
-        Stream {
-            kind,
-            width,
-            coupled,
-            base,
-            dimensions: Vec::new(),
-            modifiers: Vec::new(),
-            elements: Vec::new(),
-            whole: false,
-            moved: 0,
-        }
+        Stream { kind, width, coupled, base, dimensions: Vec::new(), modifiers: Vec::new(), elements: Vec::new(), whole: false, moved: 0 }
     }
 
     /// A parameter of a dimension while the owners of its modifiers stand at these indices.

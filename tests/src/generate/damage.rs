@@ -6,6 +6,7 @@ use crate::numbers::put;
 use crate::random::Random;
 
 /// Numbers at the edges of the ranges, as they are written: signed ones doubled.
+#[rustfmt::skip]
 const EDGES: [u64; 35] = [
     0, 1, 2, 3, 4, 5, 6, 7, 8, 9, 15, 16, 17, 30, 31, 32, 33, 64, 127, 128, 255, 4_095, 4_096, 4_097, 8_192, 1_048_575, 1_048_576,
     1_048_577, 2_097_151, 2_097_152, 2_097_153, 2_097_154, 2_147_483_647, 2_147_483_648, 4_294_967_295,

@@ -69,7 +69,8 @@ impl Draft {
     }
 
     /// Gives each plan a place, and the memory the length that they need.
-    fn put_in_memory(&mut self, random: &mut Random) {
+    pub fn put_in_memory(&mut self, random: &mut Random) {
+        self.memory = 0;
         let mut from = random.range(0, 9);
         for plan in &mut self.plans {
             plan.put_at(from);
@@ -166,7 +167,10 @@ impl Draft {
             14 => self.scuffs.push(Scuff::NoEnd),
             15 => self.empty(at),
             16 => self.scuffs.push(random.pick(&[Scuff::Remove, Scuff::Repeat, Scuff::Swap])),
-            17 => self.plans[at].free ^= random.pick(&[1 << 31, 1 << 30, 1 << 29, 1 << 28, 1 << 27, 1 << 26, 1 << 25, 1 << 24, 1 << 21, 1 << 20, 1]),
+            17 => {
+                self.plans[at].free ^=
+                    random.pick(&[1 << 31, 1 << 30, 1 << 29, 1 << 28, 1 << 27, 1 << 26, 1 << 25, 1 << 24, 1 << 21, 1 << 20, 1])
+            }
             18 => self.loop_register = self.cast.any(random),
             19 => self.read_again(random),
             20 => self.deepen(random, at),

@@ -10,7 +10,8 @@ const MOST: i64 = 1_048_576;
 
 pub fn sheet(random: &mut Random) -> Made {
     match random.below(200) {
-        0..=59 => limits(random),
+        0..=39 => limits(random),
+        40..=59 => cancelling(random),
         60..=119 => shapes(random),
         120..=159 => deep(random),
         160..=179 => crowd(random),
@@ -44,7 +45,33 @@ fn limits(random: &mut Random) -> Made {
             }
         }
     }
+    if random.one_in(2) {
+        draft.put_in_memory(random);
+    }
     (draft.operations(random), draft.vl, draft.memory.clamp(0, 65_536) as usize)
+}
+
+/// Elements that lie inside memory though their summands are as large as can be: the outer stride goes one way, and modifiers of the
+/// inner offset as far the other way.
+fn cancelling(random: &mut Random) -> Made {
+    let code = random.below(4);
+    let width = 1 << code;
+    let (inner, outer) = (random.range(1, 12), random.range(1, 256));
+    let adds = random.one_in(2);
+    let mut operations = Vec::new();
+    for (register, kind) in [(1, Kind::Load), (2, Kind::Store)] {
+        let mut plan = bare(register, kind, code, random.below(3), &Shape { sizes: vec![inner, outer], modifiers: vec![] });
+        plan.dimensions[0].stride = random.pick(&[1, 1, 2, 0]);
+        plan.dimensions[1].stride = if adds { -MOST } else { MOST };
+        let turn = Modifier { owner: 2, target: 1, parameter: Parameter::Offset, adds, displacement: MOST };
+        plan.modifiers = vec![turn; width];
+        // A few bytes left over at each step.
+        plan.modifiers[0].displacement -= random.range(0, 9);
+        plan.put_at(random.range(0, 20));
+        operations.extend(plan.operations());
+    }
+    operations.push(vec![5, 1, 1, 0, 2, 1, 1]);
+    (operations, vector_length(random), random.pick(&[0, 64, 400, 3_000]))
 }
 
 fn grows(owner: usize, target: usize, displacement: i64) -> Modifier {
@@ -71,7 +98,9 @@ fn edge_shape(random: &mut Random) -> Shape {
         9 => (vec![4_096, 2], vec![shrinks(2, 1, 4_096 + one)]),
         10 => (vec![1, 2, 2], vec![grows(3, 2, 62), grows(2, 1, 64 + one)]),
         11 => (vec![0, 0, 4_096], vec![grows(3, 2, 1), grows(2, 1, 1)]),
-        12 => (vec![2, 2, 2, 2, 2, 2, 2], vec![grows(7, 6, MOST), grows(6, 5, MOST), grows(5, 4, MOST), grows(4, 3, MOST), grows(3, 2, MOST)]),
+        12 => {
+            (vec![2, 2, 2, 2, 2, 2, 2], vec![grows(7, 6, MOST), grows(6, 5, MOST), grows(5, 4, MOST), grows(4, 3, MOST), grows(3, 2, MOST)])
+        }
         13 => (vec![0, 4_096, 256 + one], vec![]),
         // An owner of size 0 or 1 reaches nowhere, and the rules hold though there is no element.
         14 => (vec![1_024, 1_024 + one, 0], vec![grows(3, 2, 1)]),
@@ -166,7 +195,7 @@ fn long_run(random: &mut Random, most: i64) -> Made {
     let code = if most == MOST { 0 } else { random.below(4) };
     let coupled = random.pick(&[0, 0, 1, 2]);
     let mut operations: Vec<Numbers> = Vec::new();
-    let stride = if inner * outer << code <= 65_536 { random.pick(&[0, 1, 1]) } else { 0 };
+    let stride = if (inner * outer) << code <= 65_536 { random.pick(&[0, 1, 1]) } else { 0 };
     for (register, kind) in [(1, Kind::Load), (2, Kind::Load), (3, Kind::Store)] {
         let mut plan = bare(register, kind, code, coupled, &Shape { sizes: vec![inner, outer], modifiers: vec![] });
         plan.dimensions[0].stride = stride;
