@@ -1,0 +1,70 @@
+//! Inputs that are tried on every run, whatever the seed: the text's examples over many memories and vector lengths, and the longest run.
+
+use super::nests::NestInput;
+use super::{written, SheetInput, Style};
+use crate::numbers::unsigned;
+
+fn input(numbers: Vec<u64>, vl: u64, memory: usize) -> SheetInput {
+    let memory = (0..memory).map(|i| (7 * i + 3) as u8).collect();
+    SheetInput { style: Style::Valid, sheet: written(&[numbers]), vl, memory }
+}
+
+/// The triangle, its chunks copied to register 4.
+fn triangle(coupling: u64) -> Vec<u64> {
+    let (one, eight) = (unsigned(1), unsigned(8));
+    vec![1, 0x408b + coupling, 0, 2, 1, 0, 1, one, 2, 1, 0, 4, eight, 3, 1, 0, 0, 0, 1, 4, 1, 5, 1, 1, 0, 4, 1, 1]
+}
+
+/// Size 4 shrinking by 1, over some rows.
+fn shrinking(rows: u64) -> Vec<u64> {
+    let one = unsigned(1);
+    vec![1, 0x408b, 0, 2, 1, 0, 4, one, 2, 1, 0, rows, one, 3, 1, 0, 0, 1, 1, 4, 1, 5, 1, 1, 0, 4, 1, 1]
+}
+
+fn product(size: u64) -> Vec<u64> {
+    vec![1, 0x408b, 0, 2, 1, 0, 1_024, 0, 2, 1, 0, size, 0, 4, 1]
+}
+
+fn words() -> Vec<u64> {
+    vec![1, 0x5608b, 4, 2, 1, 0, 5, unsigned(2), 4, 1, 5, 1, 1, 0, 2, 1, 1]
+}
+
+/// 1,048,576 passes: elements of 8 bytes, one a chunk, all at one place.
+fn longest() -> Vec<u64> {
+    vec![1, 0x708b, 0, 2, 1, 0, 4_096, 0, 2, 1, 0, 256, 0, 4, 1, 5, 1, 1, 0, 2, 1, 1]
+}
+
+pub fn sheets() -> Vec<SheetInput> {
+    let mut inputs = vec![input(longest(), 8, 8), input(vec![], 8, 0), input(vec![1, 0x5608b, 0, 1, 0x6218b, 0], 8, 0)];
+    for vl in (8..=64).step_by(8) {
+        for memory in 0..=30 {
+            for coupling in [0, 1 << 30, 9 << 27, 10 << 27] {
+                inputs.push(input(triangle(coupling), vl, memory));
+            }
+        }
+        for memory in 3..=42 {
+            inputs.push(input(words(), vl, memory));
+        }
+    }
+    for rows in 0..=8 {
+        inputs.push(input(shrinking(rows), 8, 12));
+    }
+    for size in 1_020..=1_030 {
+        inputs.push(input(product(size), 8, 0));
+    }
+    inputs
+}
+
+/// The text's nest in rooms of many lengths, whole and cut off.
+pub fn nests() -> Vec<NestInput> {
+    let nest = vec![0x00, 0x01, 0x00, 0x01, 0x03, 0x00, 0x02, 0x08, 0x02, 0x10, 0x02];
+    let mut inputs = Vec::new();
+    for room in 0..=44 {
+        let memory = (0..24).collect();
+        inputs.push(NestInput { style: Style::Valid, nest: nest.clone(), room, memory, vls: (8..=64).step_by(8).collect() });
+    }
+    for length in 0..nest.len() {
+        inputs.push(NestInput { style: Style::Valid, nest: nest[..length].to_vec(), room: 60, memory: vec![], vls: vec![] });
+    }
+    inputs
+}

@@ -1,0 +1,102 @@
+//! Events of completed calculations, for the counts. Nothing here changes what the model answers.
+
+use crate::calculation::Calculation;
+use crate::clauses::Event;
+use crate::model::{Machine, State};
+use crate::stream::{Element, Kind, Parameter, Stream};
+
+impl Machine<'_> {
+    /// A calculation of `n` lanes is about to move, and to write at these addresses.
+    pub fn note_sources(&mut self, c: &Calculation, n: usize, written: &[i64]) {
+        let open = |register: usize| self.registers[register].state == State::Open;
+        let (first, second, destination) = (open(c.first), open(c.second), open(c.destination));
+        let width = self.registers[c.first].width as i64;
+        let chunk = |register: usize| self.registers[register].stream().chunk(self.vl / width as usize);
+        let meets = |register: usize| written.iter().any(|at| chunk(register).iter().any(|read| (read.address - at).abs() < width));
+        let overlaps = destination && (first && meets(c.first) || second && meets(c.second));
+        let twice = written.windows(2).any(|pair| (pair[0] - pair[1]).abs() < width);
+        let part = destination && n < chunk(c.destination).len();
+
+        let seen = &mut self.seen;
+        seen.mark(OPERATIONS[c.operation as usize]);
+        seen.mark_if(n > 0, WIDTHS[width.trailing_zeros() as usize]);
+        seen.mark_if(first && c.first == c.second && c.operation != 0, Event::ReadTwiceNamed);
+        seen.mark_if(first && second && c.first != c.second, Event::ReadTwoStreams);
+        seen.mark_if(!(first && second) && n > 0, Event::SourcePlain);
+        seen.mark_if(!(first && second) && n == 0, Event::SourceNone);
+        seen.mark_if(!destination && n > 0 && (c.destination == c.first || c.destination == c.second), Event::DestinationIsSource);
+        seen.mark_if(destination && !part, Event::StoreWhole);
+        seen.mark_if(part && n > 0, Event::StorePart);
+        seen.mark_if(part && n == 0, Event::StoreNone);
+        seen.mark_if(overlaps, Event::StoreOverlaps);
+        seen.mark_if(twice, Event::StoreTwice);
+    }
+
+    /// An open stream is about to move on by some elements of its next chunk.
+    pub fn note_move(&mut self, register: usize, elements: usize) {
+        if elements == 0 {
+            return;
+        }
+        let stream = self.registers[register].stream();
+        let lanes = self.vl / stream.width as usize;
+        let chunk = &stream.elements[stream.moved..stream.moved + elements];
+        let last = &chunk[elements - 1];
+        let next = stream.elements.get(stream.moved + elements);
+        let cut = stream.kind == Kind::Load && elements < lanes && next.is_some();
+        let seen = &mut self.seen;
+        seen.mark_if(elements == lanes, Event::ChunkFull);
+        seen.mark_if(stream.kind == Kind::Load && elements < lanes && next.is_none(), Event::ChunkAtEnd);
+        seen.mark_if(cut && stream.coupled == 1, Event::ChunkCoupled1);
+        seen.mark_if(cut && stream.coupled == 2, Event::ChunkCoupled2);
+        seen.mark_if(cut && stream.coupled == 3, Event::ChunkCoupled3);
+        seen.mark_if(cut && stream.coupled > 3, Event::ChunkCoupledAbove);
+        seen.mark_if(chunk[0].index[1..] != last.index[1..], Event::ChunkOverPasses);
+        if let Some(next) = next {
+            let clear = last.index[1..] == next.index[1..];
+            seen.mark_if(clear, Event::FlagsNone);
+            seen.mark_if(!clear, Event::FlagsSome);
+        }
+        seen.mark_if(stream.dimensions.len() == 7, Event::SevenDimensions);
+        seen.mark_if(skips_empty(stream, last, next), Event::FlagSkipsEmpty);
+        if !stream.modifiers.is_empty() {
+            seen.mark_if(modified(stream, last, Parameter::Size) > 0, Event::ModifiedSize);
+            seen.mark_if(modified(stream, last, Parameter::Offset) > 0, Event::ModifiedOffset);
+            seen.mark_if(modified(stream, last, Parameter::Stride) > 0, Event::ModifiedStride);
+            seen.mark_if(two_owners(stream, last), Event::TwoOwners);
+            seen.mark_if(stream.modifiers.len() == 8, Event::EightModifiers);
+        }
+    }
+}
+
+const OPERATIONS: [Event; 8] = [
+    Event::CopyDone,
+    Event::AddDone,
+    Event::SubtractDone,
+    Event::AndDone,
+    Event::OrDone,
+    Event::XorDone,
+    Event::SmallerDone,
+    Event::LargerDone,
+];
+
+const WIDTHS: [Event; 4] = [Event::Width1, Event::Width2, Event::Width4, Event::Width8];
+
+/// Whether the pass of some dimension ends at `last` although its index could still grow: what is left of the pass is empty.
+fn skips_empty(stream: &Stream, last: &Element, next: Option<&Element>) -> bool {
+    (2..=stream.dimensions.len()).any(|dimension| {
+        let ends = next.is_none_or(|next| next.index[dimension..] != last.index[dimension..]);
+        ends && i64::from(last.index[dimension - 1]) + 1 < stream.parameter(dimension, Parameter::Size, &last.index)
+    })
+}
+
+/// How many modifiers of a parameter change something at an element.
+fn modified(stream: &Stream, at: &Element, parameter: Parameter) -> usize {
+    let changes = stream.modifiers.iter().filter(|m| m.parameter == parameter && m.displacement > 0 && at.index[m.owner - 1] > 0);
+    changes.count()
+}
+
+/// Whether two owners change one parameter of one dimension at an element.
+fn two_owners(stream: &Stream, at: &Element) -> bool {
+    let changing = || stream.modifiers.iter().filter(|m| m.displacement > 0 && at.index[m.owner - 1] > 0);
+    changing().any(|one| changing().any(|other| one.owner != other.owner && one.target == other.target && one.parameter == other.parameter))
+}
