@@ -3,7 +3,7 @@
 --   Ran, unrun, ran                  a run's answer, memory and report: with a short report, and with one long enough
 --   run-number, run-behind           a number of the report, read back; the bytes behind them
 --   Translates, untranslated, translates   a translation's answer, room and report, alike
---   translate-behind                 the bytes behind
+--   translation-length, translate-behind   three numbers; the bytes behind them
 use Prim.Native.Nat.{ℕ, _+_, _*_, _%_, _^_, _≤_, _<_}
 use mathlib.Core.Path.{_≡_, refl}
 use mathlib.Core.List.{List, _++_}
