@@ -85,6 +85,7 @@ pub data Step : Type 0 where
   calculation : Calculation → Step
   refused : Refusal → ℕ → Step
 
+-- a calculation and what stands behind it; a refusal ends the list
 abbrev pub calculated : (ℕ → List Step) → Body → List Step
 calculated next (body.Calculation k c) = calculation k ∷ next (c .at)
 calculated next (body.Refused x place) = refused x place ∷ []

@@ -80,10 +80,12 @@ couplingInRange (Coupled d) = leb 1 d && leb d 7
 abbrev pub headerInRange : Header → Bool
 headerInRange h = leb (h .register) 31 && couplingInRange (h .coupling)
 
+-- "000 to 011 store B, H, W, D; 100 to 111 load": bit 14 of a kind
 abbrev pub kindCode : Kind → ℕ
 kindCode Store = 0
 kindCode Load = 1
 
+-- "1, 2, 4 or 8 bytes, codes 0 to 3": the code of a width
 abbrev pub widthCode : Width → ℕ
 widthCode B = 0
 widthCode H = 1

@@ -53,6 +53,7 @@ stands-join {s} {l} {k} {a} {m} {to} p q =
       within = q .within;
     }
 
+-- a number that is not too long is below 2^32, and is the one that the groups give
 short : (n : Number) (v : ℕ) (c : Cursor) → notTooLong n ≡ Value v c → (v < 4294967296) × (n ≡ Value v c)
 short NoNumber v c e = absurd (let z : _≡_ {A = ℕ} 0 1 = cc in omega arith)
 short (Value w d) v c e = go (ltb w 4294967296) refl e
@@ -79,6 +80,7 @@ pub more-groups : (n v : ℕ) → 128 ≤ v → groupsOf (suc n) v ≡ (v % 128 
 unfolding groupsOf
 more-groups n v h = rw (le-ltb v 128 h)
 
+-- a number has at least one group
 groups-some : (n v : ℕ) → 0 < length (groupsOf n v)
 unfolding groupsOf
 groups-some zero v = omega arith
@@ -92,10 +94,12 @@ groups-some (suc n) v = go (ltb v 128)
 pub number-some : (v : ℕ) → 0 < length (numberBytes v)
 number-some v = groups-some 4 v
 
+-- a number below 128 is read back from its one group, before anything
 one-read : (n at v : ℕ) (l : List ℕ) → v < 128 → groupsAt (suc n) at (groupsOf n v ++ l) ≡ Value v (record { at = at + length (groupsOf n v) })
 unfolding groupsAt
 one-read n at v l h = rw (last-group n v h, lt-ltb v 128 h)
 
+-- a number from 128 on is read back from its groups, if the number above its lowest group is
 more-read : (n at v : ℕ) (l : List ℕ) → 128 ≤ v
     → groupsAt (suc n) (at + 1) (groupsOf n (v / 128) ++ l) ≡ Value (v / 128) (record { at = at + 1 + length (groupsOf n (v / 128)) })
     → groupsAt (suc (suc n)) at (groupsOf (suc n) v ++ l) ≡ Value v (record { at = at + length (groupsOf (suc n) v) })
@@ -105,6 +109,7 @@ more-read n at v l k ih =
     let e : at + 1 + length (groupsOf n (v / 128)) ≡ at + suc (length (groupsOf n (v / 128))) = omega arith in
     rw (more-groups n v k, le-ltb (v % 128 + 128) 128 (omega arith), ih, ne-eqb (v / 128) 0 (λ q. omega arith), s, e)
 
+-- a number below 128^(n + 1) is read back from its groups, before anything
 groups-written : (n at v : ℕ) (l : List ℕ) → v < 128 ^ suc n → groupsAt (suc n) at (groupsOf n v ++ l) ≡ Value v (record { at = at + length (groupsOf n v) })
 groups-written zero at v l h = one-read zero at v l (omega arith)
 groups-written (suc n) at v l h = go (ltb v 128) refl (groups-written n (at + 1) (v / 128) l (omega (arith, pow-succ' 128 (suc n))))
@@ -130,9 +135,11 @@ record Front (n at v : ℕ) (c : Cursor) (l : List ℕ) : Type 0 where
   behind : c .at ≡ at + length (groupsOf n v)
   enough : length (groupsOf n v) ≤ length l
 
+-- behind the first element of a list of bytes stand bytes
 tail-bytes : (b : ℕ) (l : List ℕ) → areBytes (b ∷ l) → areBytes l
 tail-bytes b l p i = p (suc i)
 
+-- a byte below 128 in front is the one group of the number that it gives
 front-last : (n at v b : ℕ) (c : Cursor) (l : List ℕ) → b < 128 → Value b (record { at = at + 1 }) ≡ Value v c → Front n at v c (b ∷ l)
 front-last n at v b c l h e =
     let z : v ≡ b = cc in
@@ -144,6 +151,7 @@ front-last n at v b c l h e =
       enough = rw g (omega arith);
     }
 
+-- a byte with its high bit set, before the groups of a number that is not 0, begins the groups of the two together
 front-more : (n at v w b : ℕ) (c d : Cursor) (l : List ℕ) → 128 ≤ b → b < 256 → (w ≡ 0 → ⊥) → Front n (at + 1) w d l
     → Value (b - 128 + 128 * w) d ≡ Value v c → Front (suc n) at v c (b ∷ l)
 front-more n at v w b c d l h k p f e =
@@ -168,6 +176,7 @@ front-above n at v b c l h k (Value w d) f e = go (eqb w 0) refl e
     go true t q = absurd (let z : _≡_ {A = ℕ} 0 1 = cc in omega arith)
     go false t q = front-more n at v w b c d l h k (eqb-false _ _ t) (f w d refl) q
 
+-- the groups of the number that was read stand in front, and the place is behind them
 groups-read : (n at v : ℕ) (c : Cursor) (l : List ℕ) → areBytes l → groupsAt (suc n) at l ≡ Value v c → Front n at v c l
 unfolding groupsAt
 groups-read zero at v c [] p e = absurd (let z : _≡_ {A = ℕ} 0 1 = cc in omega arith)
@@ -236,6 +245,7 @@ pub signed-written : (s pre post : List ℕ) (z : ℤ) → mag z < 2147483648 �
     → signedAt s (length pre) ≡ Whole z (record { at = length pre + length (numberBytes (unsignedOf z)) })
 signed-written s pre post z h e = rw (number-written s pre post (unsignedOf z) (unsigned-range z .1 h) e, signed-unsigned z)
 
+-- where a signed number was read, the number that stands for it was read
 whole : (n : Number) (z : ℤ) (c : Cursor) → asSigned n ≡ Whole z c → n ≡ Value (unsignedOf z) c
 whole NoNumber z c e = absurd (let z : _≡_ {A = ℕ} 0 1 = cc in omega arith)
 whole (Value v d) z c e =

@@ -51,6 +51,7 @@ unsignedOf (negsuc k) = 2 * k + 1
 unfoldable pub signedOf : ℕ → ℤ
 signedOf n = cond (eqb (n % 2) 0) (pos (n / 2)) (negsuc (n / 2))
 
+-- an answer read as signed: what its number stands for, with the same place behind it
 abbrev pub asSigned : Number → Signed
 asSigned (Value v c) = Whole (signedOf v) c
 asSigned NoNumber = NoWhole

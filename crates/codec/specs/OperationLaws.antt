@@ -63,6 +63,7 @@ read-signed s pre post z h e = rw (length-append pre (signedBytes z)) (signed-wr
 most : (v k : ℕ) → leb v k ≡ true → k < 4294967296 → v < 4294967296
 most v k e h = omega (arith, leb-true v k e)
 
+-- an integer that is not negative is its absolute value
 abs-back : (z : ℤ) → nonNeg z ≡ true → pos (natAbs z) ≡ z
 abs-back (pos n) e = refl
 abs-back (negsuc n) e = absurd (let z : _≡_ {A = ℕ} 0 1 = cc in omega arith)
@@ -73,21 +74,23 @@ parameter-range parameter.Size = refl
 parameter-range parameter.Offset = refl
 parameter-range parameter.Stride = refl
 
+-- a parameter is read back from its code
 parameter-back : (p : Parameter) → parameterCoded (parameterCode p) ≡ p
 parameter-back parameter.Size = refl
 parameter-back parameter.Offset = refl
 parameter-back parameter.Stride = refl
 
--- those of behaviours 0 and 1
+-- the codes of behaviours are 0 and 1
 pub behaviour-range : (b : Behaviour) → leb (behaviourCode b) 1 ≡ true
 behaviour-range behaviour.Add = refl
 behaviour-range behaviour.Subtract = refl
 
+-- a behaviour is read back from its code
 behaviour-back : (b : Behaviour) → behaviourCoded (behaviourCode b) ≡ b
 behaviour-back behaviour.Add = refl
 behaviour-back behaviour.Subtract = refl
 
--- those of actions 0 to 7
+-- the codes of actions are 0 to 7
 pub action-range : (a : Action) → leb (actionCode a) 7 ≡ true
 action-range action.Copy = refl
 action-range action.Add = refl
@@ -110,6 +113,7 @@ action-back action.Smaller = refl
 action-back action.Larger = refl
 
 module _ (s pre post : List ℕ) where
+  -- an open that was written is read back
   open-written : (free : ℕ) (h : Header) (b : Bytes) → isFree free → operationInRange (op.Open h b) ≡ true → s ≡ pre ++ (operationBytes free (op.Open h b) ++ post)
       → operationAt s (length pre) ≡ decoded.Operation (op.Open h b) (record { at = length (pre ++ operationBytes free (op.Open h b)) })
   unfolding operationInRange operationBytes operationAt openAt
@@ -133,6 +137,7 @@ module _ (s pre post : List ℕ) where
         g,
       )
 
+  -- a dimension that was written is read back
   dimension-written : (free : ℕ) (d : Dimension) → operationInRange (op.Dimension d) ≡ true → s ≡ pre ++ (operationBytes free (op.Dimension d) ++ post)
       → operationAt s (length pre) ≡ decoded.Operation (op.Dimension d) (record { at = length (pre ++ operationBytes free (op.Dimension d)) })
   unfolding operationInRange operationBytes operationAt dimensionAt
@@ -164,6 +169,7 @@ module _ (s pre post : List ℕ) where
         g,
       )
 
+  -- a modifier that was written is read back
   modifier-written : (free : ℕ) (m : Modifier) → operationInRange (op.Modifier m) ≡ true → s ≡ pre ++ (operationBytes free (op.Modifier m) ++ post)
       → operationAt s (length pre) ≡ decoded.Operation (op.Modifier m) (record { at = length (pre ++ operationBytes free (op.Modifier m)) })
   unfolding operationInRange operationBytes operationAt modifierAt
@@ -202,6 +208,7 @@ module _ (s pre post : List ℕ) where
         g,
       )
 
+  -- an end that was written is read back
   end-written : (free register : ℕ) → operationInRange (op.End register) ≡ true → s ≡ pre ++ (operationBytes free (op.End register) ++ post)
       → operationAt s (length pre) ≡ decoded.Operation (op.End register) (record { at = length (pre ++ operationBytes free (op.End register)) })
   unfolding operationInRange operationBytes operationAt endAt
@@ -213,6 +220,7 @@ module _ (s pre post : List ℕ) where
       let g : pre ++ n0 ++ n1 ≡ pre ++ (n0 ++ n1) = simp append-assoc in
       rw (read s pre _ 4 (omega arith) e0, read s (pre ++ n0) _ register (most register 31 r (omega arith)) e1, r, g)
 
+  -- a run that was written is read back, up to its count
   run-written : (free register count : ℕ) → operationInRange (op.Run register count) ≡ true → s ≡ pre ++ (operationBytes free (op.Run register count) ++ post)
       → operationAt s (length pre) ≡ decoded.Operation (op.Run register count) (record { at = length (pre ++ operationBytes free (op.Run register count)) })
   unfolding operationInRange operationBytes operationAt runAt
@@ -285,6 +293,7 @@ record Good {A : Type 0} (n : Number) (allowed : ℕ → Bool) (next : ℕ → �
   fine : allowed v ≡ true
   went : next v (c .at) ≡ a
 
+-- an answer that is no refusal comes from a field that was not refused
 good : {A : Type 0} (refused : Refusal → A) (n : Number) (allowed : ℕ → Bool) (next : ℕ → ℕ → A) (a : A) → ((x : Refusal) → refused x ≡ a → ⊥)
     → field refused n allowed next ≡ a → Good n allowed next a
 good refused NoNumber allowed next a never e = absurd (never BadNumber e)
@@ -302,6 +311,7 @@ record GoodSigned {A : Type 0} (n : Signed) (allowed : ℤ → Bool) (next : ℤ
   fine : allowed v ≡ true
   went : next v (c .at) ≡ a
 
+-- an answer that is no refusal comes from a signed field that was not refused
 good-signed : {A : Type 0} (refused : Refusal → A) (n : Signed) (allowed : ℤ → Bool) (next : ℤ → ℕ → A) (a : A) → ((x : Refusal) → refused x ≡ a → ⊥)
     → signedField refused n allowed next ≡ a → GoodSigned n allowed next a
 good-signed refused NoWhole allowed next a never e = absurd (never BadNumber e)
@@ -319,9 +329,11 @@ pub record Decoding (s : List ℕ) (at : ℕ) (o : Operation) (to : ℕ) : Type 
   pub stands : Stands s at (operationBytes free o) to
   pub on : at < to
 
+-- a refusal is no operation
 not-refused : (place : ℕ) (o : Operation) (c : Cursor) (x : Refusal) → decoded.Refused x place ≡ decoded.Operation o c → ⊥
 not-refused place o c x e = let z : _≡_ {A = ℕ} 0 1 = cc in omega arith
 
+-- an operation has at least one byte
 operation-some : (free : ℕ) (o : Operation) → 0 < length (operationBytes free o)
 unfolding operationBytes
 operation-some free (op.Open h b) = simp length-append (omega (arith, number-some 1))
@@ -330,6 +342,7 @@ operation-some free (op.Modifier m) = simp length-append (omega (arith, number-s
 operation-some free (op.End register) = simp length-append (omega (arith, number-some 4))
 operation-some free (op.Run register count) = simp length-append (omega (arith, number-some 5))
 
+-- a calculation has at least one byte
 calculation-some : (c : Calculation) → 0 < length (calculationBytes c)
 unfolding calculationBytes
 calculation-some c = simp length-append (omega (arith, number-some (actionCode (c .action))))
@@ -339,14 +352,17 @@ standing : (s : List ℕ) (place to free : ℕ) (o : Operation) → isFree free 
 standing s place to free o f r k =
     record { free = free; is-free = f; range = r; stands = k; on = omega (arith, k .behind, operation-some free o) }
 
+-- the same operation with the same place behind it: what stands where one was read stands for the other
 same : (s : List ℕ) (place : ℕ) (a o : Operation) (d c : Cursor) → decoded.Operation a d ≡ decoded.Operation o c → Decoding s place a (d .at) → Decoding s place o (c .at)
 same s place a o d c e k = let x : a ≡ o = cc in let y : d ≡ c = cc in rw (x, y) at k
 
+-- a code from 0 to 2 is that of the parameter that it stands for
 parameter-there : (n : ℕ) → leb n 2 ≡ true → parameterCode (parameterCoded n) ≡ n
 parameter-there zero e = refl
 parameter-there (suc zero) e = refl
 parameter-there (suc (suc n)) e = omega (arith, leb-true (suc (suc n)) 2 e)
 
+-- a code 0 or 1 is that of the behaviour that it stands for
 behaviour-there : (n : ℕ) → leb n 1 ≡ true → behaviourCode (behaviourCoded n) ≡ n
 behaviour-there zero e = refl
 behaviour-there (suc n) e = omega (arith, leb-true (suc n) 1 e)
@@ -399,6 +415,7 @@ modifier-stands s place at a1 a2 a3 a4 a5 r g q b d hr hg hq hb hd k0 k1 k2 k3 k
     (stands-join (stands-join (stands-join (stands-join (stands-join k0 k1) k2) j3) j4) k5))
 
 module _ (s : List ℕ) (place at : ℕ) (o : Operation) (c : Cursor) (p : areBytes s) where
+  -- an open that was read stands as it is written, free bits aside
   open-read : Stands s place (numberBytes 1) at → openAt s (λ x. decoded.Refused x place) at ≡ decoded.Operation o c → Decoding s place o (c .at)
   unfolding openAt operationInRange operationBytes
   open-read k e =
@@ -413,6 +430,7 @@ module _ (s : List ℕ) (place at : ℕ) (o : Operation) (c : Cursor) (p : areBy
       (and-both _ _ (r .1) (g .fine))
       (stands-join (stands-join k n1) n2))
 
+  -- a dimension that was read stands as it is written
   dimension-read : Stands s place (numberBytes 2) at → dimensionAt s (λ x. decoded.Refused x place) at ≡ decoded.Operation o c → Decoding s place o (c .at)
   unfolding dimensionAt
   dimension-read k e =
@@ -427,6 +445,7 @@ module _ (s : List ℕ) (place at : ℕ) (o : Operation) (c : Cursor) (p : areBy
       (signed-read s (f3 .c .at) (f4 .v) (f4 .c) p (f4 .got))
       o c (f4 .went)
 
+  -- a modifier that was read stands as it is written
   modifier-read : Stands s place (numberBytes 3) at → modifierAt s (λ x. decoded.Refused x place) at ≡ decoded.Operation o c → Decoding s place o (c .at)
   unfolding modifierAt
   modifier-read k e =
@@ -444,6 +463,7 @@ module _ (s : List ℕ) (place at : ℕ) (o : Operation) (c : Cursor) (p : areBy
       (number-read s (f4 .c .at) (f5 .v) (f5 .c) p (f5 .got))
       o c (f5 .went)
 
+  -- an end that was read stands as it is written
   end-read : Stands s place (numberBytes 4) at → endAt s (λ x. decoded.Refused x place) at ≡ decoded.Operation o c → Decoding s place o (c .at)
   unfolding endAt operationInRange operationBytes
   end-read k e =
@@ -452,6 +472,7 @@ module _ (s : List ℕ) (place at : ℕ) (o : Operation) (c : Cursor) (p : areBy
       (standing s place (f .c .at) 0 (op.End (f .v)) free-none (f .fine)
       (stands-join k (number-read s at (f .v) (f .c) p (f .got))))
 
+  -- a run that was read, up to its count, stands as it is written
   run-read : Stands s place (numberBytes 5) at → runAt s (λ x. decoded.Refused x place) at ≡ decoded.Operation o c → Decoding s place o (c .at)
   unfolding runAt operationInRange operationBytes
   run-read k e =
@@ -461,6 +482,7 @@ module _ (s : List ℕ) (place at : ℕ) (o : Operation) (c : Cursor) (p : areBy
       (standing s place (g .c .at) 0 (op.Run (f .v) (g .v)) free-none (and-both _ _ (f .fine) (g .fine))
       (stands-join (stands-join k (number-read s at (f .v) (f .c) p (f .got))) (number-read s (f .c .at) (g .v) (g .c) p (g .got))))
 
+  -- an operation of any kind that was read stands as it is written, free bits aside
   kind-read : (kind : ℕ) → Stands s place (numberBytes kind) at → kindAt s (λ x. decoded.Refused x place) kind at ≡ decoded.Operation o c → Decoding s place o (c .at)
   kind-read zero k e = absurd (not-refused place o c OutOfRange e)
   kind-read (suc zero) k e = open-read k e
@@ -483,9 +505,11 @@ pub record Bodying (s : List ℕ) (at : ℕ) (b : Calculation) (to : ℕ) : Type
   pub stands : Stands s at (calculationBytes b) to
   pub on : at < to
 
+-- a refusal is no calculation
 not-refused-body : (place : ℕ) (b : Calculation) (c : Cursor) (x : Refusal) → body.Refused x place ≡ body.Calculation b c → ⊥
 not-refused-body place b c x e = let z : _≡_ {A = ℕ} 0 1 = cc in omega arith
 
+-- the same calculation with the same place behind it: what stands where one was read stands for the other
 same-body : (s : List ℕ) (place : ℕ) (a b : Calculation) (d c : Cursor) → body.Calculation a d ≡ body.Calculation b c → Bodying s place a (d .at) → Bodying s place b (c .at)
 same-body s place a b d c e k = let x : a ≡ b = cc in let y : d ≡ c = cc in rw (x, y) at k
 

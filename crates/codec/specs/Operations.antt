@@ -43,46 +43,55 @@ abbrev pub field : {A : Type 0} → (Refusal → A) → Number → (ℕ → Bool
 field refused NoNumber allowed next = refused BadNumber
 field refused (Value v c) allowed next = cond (allowed v) (next v (c .at)) (refused OutOfRange)
 
+-- the same for a signed number: none is refused with 1, one out of range with 2
 abbrev pub signedField : {A : Type 0} → (Refusal → A) → Signed → (ℤ → Bool) → (ℤ → ℕ → A) → A
 signedField refused NoWhole allowed next = refused BadNumber
 signedField refused (Whole z c) allowed next = cond (allowed z) (next z (c .at)) (refused OutOfRange)
 
--- the ranges of "Numbers": base address, dimension size, offset and stride, displacement, calculations in a body; 32 registers
+-- any number is allowed: the kind of an operation and a header word are judged once they are read
 abbrev pub anyNumber : ℕ → Bool
 anyNumber v = true
 
+-- a number from 0 to `most`
 abbrev pub upTo : ℕ → ℕ → Bool
 upTo most v = leb v most
 
+-- "keeps 32 vector registers": a register is 0 to 31
 abbrev pub isRegister : ℕ → Bool
 isRegister = upTo 31
 
+-- "base address | 0 to 1,048,576"
 abbrev pub isBase : ℕ → Bool
 isBase = upTo 1048576
 
+-- "dimension size | 0 to 4,096"
 abbrev pub isSize : ℕ → Bool
 isSize = upTo 4096
 
+-- "offset, stride | -1,048,576 to 1,048,576"
 abbrev pub isReach : ℤ → Bool
 isReach z = leb (natAbs z) 1048576
 
+-- "displacement of a modifier | 0 to 1,048,576"
 abbrev pub isDisplacement : ℕ → Bool
 isDisplacement = upTo 1048576
 
+-- "calculations in a body | 1 to 16"
 abbrev pub isCount : ℕ → Bool
 isCount v = leb 1 v && leb v 16
 
--- "parameter (0 size, 1 offset, 2 stride), behaviour (0 add, 1 subtract)"
+-- "parameter (0 size, 1 offset, 2 stride)": the parameter of a code
 abbrev pub parameterCoded : ℕ → Parameter
 parameterCoded zero = parameter.Size
 parameterCoded (suc zero) = parameter.Offset
 parameterCoded (suc (suc n)) = parameter.Stride
 
+-- "behaviour (0 add, 1 subtract)": the behaviour of a code
 abbrev pub behaviourCoded : ℕ → Behaviour
 behaviourCoded zero = behaviour.Add
 behaviourCoded (suc n) = behaviour.Subtract
 
--- "0 copy .., 1 add, 2 subtract, 3 and, 4 or, 5 xor, 6 signed smaller, 7 signed larger"
+-- "0 copy .., 1 add, 2 subtract, 3 and, 4 or, 5 xor, 6 signed smaller, 7 signed larger": the action of a code
 abbrev pub actionCoded : ℕ → Action
 actionCoded zero = action.Copy
 actionCoded (suc zero) = action.Add
@@ -177,15 +186,18 @@ calculationAt s place =
 
 -- ---- writing
 
+-- "parameter (0 size, 1 offset, 2 stride)": the code of a parameter
 abbrev pub parameterCode : Parameter → ℕ
 parameterCode parameter.Size = 0
 parameterCode parameter.Offset = 1
 parameterCode parameter.Stride = 2
 
+-- "behaviour (0 add, 1 subtract)": the code of a behaviour
 abbrev pub behaviourCode : Behaviour → ℕ
 behaviourCode behaviour.Add = 0
 behaviourCode behaviour.Subtract = 1
 
+-- "0 copy .., 1 add, 2 subtract, 3 and, 4 or, 5 xor, 6 signed smaller, 7 signed larger": the code of an action
 abbrev pub actionCode : Action → ℕ
 actionCode action.Copy = 0
 actionCode action.Add = 1
@@ -196,16 +208,19 @@ actionCode action.Xor = 5
 actionCode action.Smaller = 6
 actionCode action.Larger = 7
 
--- every field is in its range
+-- every field of a dimension is in its range
 abbrev pub dimensionInRange : Dimension → Bool
 dimensionInRange d = isRegister (d .register) && isReach (d .offset .0) && isSize (d .size) && isReach (d .stride .0)
 
+-- the register, the target field and the displacement of a modifier are in their ranges
 abbrev pub modifierInRange : Modifier → Bool
 modifierInRange m = isRegister (m .register) && upTo 6 (m .target) && isDisplacement (m .displacement)
 
+-- "base address | 0 to 1,048,576", of a base as a byte amount
 abbrev pub baseInRange : Bytes → Bool
 baseInRange b = nonNeg (b .0) && isBase (natAbs (b .0))
 
+-- every field of an operation is in its range
 unfoldable pub operationInRange : Operation → Bool
 operationInRange (op.Open h b) = headerInRange h && baseInRange b
 operationInRange (op.Dimension d) = dimensionInRange d
@@ -213,6 +228,7 @@ operationInRange (op.Modifier m) = modifierInRange m
 operationInRange (op.End register) = isRegister register
 operationInRange (op.Run register count) = isRegister register && isCount count
 
+-- "A signed n is written as 2n if n is 0 or more, else -2n-1": its bytes
 abbrev pub signedBytes : ℤ → List ℕ
 signedBytes z = numberBytes (unsignedOf z)
 
@@ -236,11 +252,12 @@ unfoldable pub bytesOfAll : List Operation → List ℕ
 bytesOfAll [] = []
 bytesOfAll (o ∷ os) = operationBytes 0 o ++ bytesOfAll os
 
--- a copy's second source is its first
+-- every register of a calculation is in its range, and a copy's second source is its first
 abbrev pub calculationInRange : Calculation → Bool
 calculationInRange c =
     isRegister (c .destination) && isRegister (c .first) && isSecond (actionCode (c .action)) (c .first) (c .second)
 
+-- "each: operation, destination, first source, second source": its numbers, one after the other
 unfoldable pub calculationBytes : Calculation → List ℕ
 calculationBytes c =
     numberBytes (actionCode (c .action)) ++ numberBytes (c .destination) ++ numberBytes (c .first) ++ numberBytes (c .second)
