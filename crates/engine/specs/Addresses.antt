@@ -17,16 +17,19 @@ use Rattle.codec.specs.declared.operation.Parameter.the-variants.{Offset, Strid
 use Rattle.engine.specs.Loops.{modifiersOf, added}
 use Rattle.engine.specs.declared.stream.Pattern.{Pattern}
 
+-- a base or an offset of 0 bytes
 abbrev pub noBytes : Bytes
 noBytes = record { 0 = pos 0 }
 
+-- a stride of 0 elements
 abbrev pub noElements : Elements
 noElements = record { 0 = pos 0 }
 
--- "its target's parameter is the configured value plus or minus k x displacement"
+-- "its target's parameter is the configured value plus or minus k x displacement": the offset of dimension d
 abbrev pub offsetAt : Pattern → ℕ → List ℕ → ℤ
 offsetAt p d outer = getD (p .offsets) d noBytes .0 +ℤ added Offset d outer (modifiersOf (p .shape))
 
+-- "its target's parameter is the configured value plus or minus k x displacement": the stride of dimension d
 abbrev pub strideAt : Pattern → ℕ → List ℕ → ℤ
 strideAt p d outer = getD (p .strides) d noElements .0 +ℤ added Stride d outer (modifiersOf (p .shape))
 
@@ -40,6 +43,7 @@ addressUpTo p width v zero = p .base .0
 addressUpTo p width v (suc d) =
     addressUpTo p width v d +ℤ (offsetAt p d (drop (suc d) v) +ℤ inBytes (strideAt p d (drop (suc d) v)) (getD v d 0) width)
 
+-- "base + the sum over dimensions of (offset + stride x index x width)": of an element, over all dimensions
 abbrev pub address : Pattern → ℕ → List ℕ → ℤ
 address p width v = addressUpTo p width v (p .shape .dims)
 

@@ -54,9 +54,11 @@ pub record Modifies (target : ℕ) (r : Register) : Type 0 where
 abbrev pub lastsOutside : Shape → ℕ → List ℕ
 lastsOutside s d = map lastIndex (drop (suc d) (highsOf s))
 
+-- "low = size less the same over subtracting ones": of dimension d
 abbrev pub lowOf : Shape → ℕ → ℤ
 lowOf s d = lowAt s d (lastsOutside s d)
 
+-- "high = size plus, for each adding size modifier on it, displacement x ..": of dimension d
 abbrev pub highOf : Shape → ℕ → ℕ
 highOf s d = highAt s d (lastsOutside s d)
 
@@ -93,16 +95,17 @@ pub record Lies (len width : ℕ) (a : ℤ) : Type 0 where
 abbrev pub AllLie : ℕ → Register → List (List ℕ) → Type 0
 AllLie len r vs = r .state ≡ Open → (k : ℕ) → k < length vs → Lies len (r .width) (address (r .pattern) (r .width) (getD vs k []))
 
--- a source is plain or an open load, a destination plain or an open store
+-- a source is plain or an open load
 pub data Source (r : Register) : Type 0 where
   plain : r .state ≡ Plain → Source r
   load : r .state ≡ Open → r .kind ≡ Load → Source r
 
+-- a destination is plain or an open store
 pub data Sink (r : Register) : Type 0 where
   plain : r .state ≡ Plain → Sink r
   store : r .state ≡ Open → r .kind ≡ Store → Sink r
 
--- on first source a, second source b and destination d, with n lanes of a and m of b
+-- when a calculation is accepted: on first source a, second source b, destination d, with n lanes of a and m of b
 pub record CalculatesOn (vl len n m : ℕ) (a b d : Register) : Type 0 where
   pub first : Source a
   pub second : Source b
@@ -115,6 +118,7 @@ pub record CalculatesOn (vl len n m : ℕ) (a b d : Register) : Type 0 where
   pub second-inside : AllLie len b (nextChunk vl b)
   pub destination-inside : AllLie len d (take n (nextChunk vl d))
 
+-- when a calculation is accepted in a world: on the registers that it names
 abbrev pub Calculates : ℕ → Calculation → World → Type 0
 Calculates vl c w =
     CalculatesOn vl (length (w .memory))

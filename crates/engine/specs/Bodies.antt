@@ -44,6 +44,7 @@ endingIs ended.Over cs = over
 endingIs (ended.Runs loop) cs = runs loop cs
 endingIs (ended.Refused x place) cs = refused x place
 
+-- what a sheet's operations leave, in the definitions' words
 abbrev pub preparedIs : prepared.Prepared → Sheets.Prepared
 preparedIs p = record { machine = p .machine; ending = endingIs (p .ending) (bodyOf (p .body)) }
 

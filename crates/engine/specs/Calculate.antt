@@ -21,6 +21,7 @@ use Rattle.engine.specs.declared.stream.Pattern.{Pattern}
 use Rattle.engine.specs.declared.register.Register.{Register}
 use Rattle.engine.specs.declared.register.Machine.{Machine}
 
+-- what a calculation may change: the 32 registers with their streams, and the memory
 pub record World : Type 0 where
   pub machine : Machine
   pub memory : List ℕ
@@ -68,6 +69,7 @@ checksOn vl len n m a b d =
     ∷ Outside if outside len d (take n (nextChunk vl d))
     ∷ []
 
+-- why a calculation is refused, if it is: the first of its checks that applies
 unfoldable pub refusalOf : ℕ → Calculation → World → Why
 refusalOf vl c w =
     firstOf

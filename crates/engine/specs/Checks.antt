@@ -14,6 +14,7 @@ pub record Check : Type 0 where
   pub applies : Bool
 
 infix 90 _if_
+-- refusal x, which applies if b
 abbrev pub _if_ : Refusal → Bool → Check
 x if b = record { refusal = x; applies = b }
 

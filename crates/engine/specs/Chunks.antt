@@ -31,6 +31,7 @@ abbrev pub grouped : (ℕ → List ℕ → ℕ) → ℕ → Coupling → List (L
 grouped size D Uncoupled = loops size 0 D [] ∷ []
 grouped size D (Coupled c) = passes size c D
 
+-- the groups that have an element
 unfoldable pub groups : (ℕ → List ℕ → ℕ) → ℕ → Coupling → List (List (List ℕ))
 groups size D coupling = withElements (grouped size D coupling)
 
@@ -39,6 +40,7 @@ unfoldable pub leftAfter : {A : Type 0} → ℕ → List (List A) → List (List
 leftAfter n [] = []
 leftAfter n (g ∷ gs) = cond (ltb n (length g)) (drop n g ∷ gs) (leftAfter (n - length g) gs)
 
+-- the elements of the first group; none if there is no group
 abbrev pub nextGroup : {A : Type 0} → List (List A) → List A
 nextGroup [] = []
 nextGroup (g ∷ gs) = g
@@ -48,10 +50,11 @@ nextGroup (g ∷ gs) = g
 unfoldable pub chunkOf : {A : Type 0} → List (List A) → ℕ → ℕ → List A
 chunkOf gs lanes n = take lanes (nextGroup (leftAfter n gs))
 
--- of a stream's shape
+-- the groups of a stream's elements
 abbrev pub groupsOf : Shape → List (List (List ℕ))
 groupsOf s = groups (sizeAt s) (s .dims) (s .coupling)
 
+-- a stream's next chunk at so many lanes, after n elements
 abbrev pub chunk : Shape → ℕ → ℕ → List (List ℕ)
 chunk s lanes n = chunkOf (groupsOf s) lanes n
 
@@ -75,5 +78,6 @@ height s n =
     cond (leb (length (elements s)) n) (suc (s .dims))
     (cond (eqb n 0) 0 (differ (getD (elements s) (n - 1) []) (getD (elements s) n [])))
 
+-- whether the flag of dimension i is set, where the height is h
 abbrev pub flag : ℕ → ℕ → Bool
 flag h i = ltb i h

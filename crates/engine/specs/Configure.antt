@@ -62,7 +62,7 @@ endChecks r =
     ∷ Product if ltb 1048576 (product (highsOf (shapeOf r)))
     ∷ []
 
--- "to being configured, with the header's width, no valid lanes and all bytes zero"
+-- the pattern after open: the base and the coupling, no dimension and no modifier yet
 abbrev pub openedPattern : Header → Bytes → Pattern
 openedPattern h base = record {
   shape = record { dims = 0; sizes = noShape .sizes; mods = 0; modifiers = noShape .modifiers; coupling = h .coupling };
@@ -71,6 +71,7 @@ openedPattern h base = record {
   strides = noPattern .strides;
 }
 
+-- "to being configured, with the header's width, no valid lanes and all bytes zero"
 abbrev pub opened : Header → Bytes → Register
 opened h base = record {
   state = Configuring;
@@ -123,6 +124,7 @@ owned m s = record {
   displacement = m .displacement;
 }
 
+-- one modifier more, behind those that were given
 abbrev pub modified : given.Modifier → Pattern → Pattern
 modified m p = record {
   shape = record {
@@ -141,6 +143,7 @@ modified m p = record {
 abbrev pub ended : Register → Register
 ended r = movedBy 0 r
 
+-- the register that an operation names
 abbrev pub registerOf : Operation → ℕ
 registerOf (op.Open h base) = h .register
 registerOf (op.Dimension d) = d .register
@@ -148,6 +151,7 @@ registerOf (op.Modifier m) = m .register
 registerOf (op.End i) = i
 registerOf (op.Run i n) = i
 
+-- the checks of an operation on its register; a run has none here
 abbrev pub checksFor : Operation → Register → List Check
 checksFor (op.Open h base) r = openChecks r
 checksFor (op.Dimension d) r = dimensionChecks r
@@ -163,13 +167,15 @@ applied (op.Modifier m) r = patterned (modified m (r .pattern)) r
 applied (op.End i) r = ended r
 applied (op.Run i n) r = r
 
--- "A refused operation .. alters nothing": the machine after an operation
+-- the new one if nothing is refused, else the old one
 abbrev pub unlessBecause : {A : Type 0} → Why → A → A → A
 unlessBecause Nothing new old = new
 unlessBecause (Because x) new old = old
 
+-- why an operation is refused, if it is: the first check on its register that applies
 unfoldable pub whyNot : Operation → Machine → Why
 whyNot o m = firstOf (checksFor o (reg m (registerOf o)))
 
+-- "A refused operation .. alters nothing": the machine after an operation
 unfoldable pub configured : Operation → Machine → Machine
 configured o m = unlessBecause (whyNot o m) (put m (registerOf o) (applied o (reg m (registerOf o)))) m

@@ -90,6 +90,7 @@ withModifier m (going t) =
     })
 withModifier m (ended t) = ended t
 
+-- the stream that was being given is ended
 abbrev pub withEnd : Given → Given
 withEnd none = none
 withEnd (going t) = ended t
@@ -109,6 +110,7 @@ unfoldable pub givenFrom : ℕ → Given → List Operation → Given
 givenFrom i g [] = g
 givenFrom i g (o ∷ os) = givenFrom i (givenBy i o g) os
 
+-- what the operations of a sheet give for register i
 abbrev pub givenFor : ℕ → List Operation → Given
 givenFor i os = givenFrom i none os
 

@@ -37,6 +37,7 @@ pub record Ranged (s : Shape) : Type 0 where
   pub size : (d : ℕ) → getD (s .sizes) d 0 ≤ 4096
   pub modifier : (k : ℕ) → k < s .mods → RangedModifier (s .dims) (getD (s .modifiers) k noModifier)
 
+-- a pattern's arrays and their ranges
 pub record RangedPattern (p : Pattern) : Type 0 where
   pub shape : Ranged (p .shape)
   pub base : natAbs (p .base .0) ≤ 1048576
@@ -63,6 +64,7 @@ pub record Standing (r : Register) : Type 0 where
   pub index : r .index ≡ indexOf (getD (elements (shapeOf r)) (r .moved) [])
   pub height : r .height ≡ height (shapeOf r) (r .moved)
 
+-- what holds of a register: its lanes fit, its descriptors are in range, its stream stands where its state says
 pub record Good (vl : ℕ) (r : Register) : Type 0 where
   pub width : IsWidth (r .width)
   pub lanes : length (r .lanes) ≡ 64

@@ -127,10 +127,11 @@ movedOf (e ∷ es) i = e .taken i ++ movedOf es i
 
 -- ---- a run
 
--- calculation k of a body that is repeated
+-- what `getD` gives past the end of a body; no calculation of a run is such
 abbrev pub noPlaced : Placed
 noPlaced = record { place = 0; calculation = record { action = Copy; destination = 0; first = 0; second = 0 } }
 
+-- calculation k of a body that is repeated
 abbrev pub inTurn : List Placed → ℕ → Placed
 inTurn body k = getD body (k % length body) noPlaced
 

@@ -27,6 +27,7 @@ use Rattle.engine.specs.declared.stream.Shape.{Shape}
 abbrev pub modifiersOf : Shape → List Modifier
 modifiersOf s = take (s .mods) (s .modifiers)
 
+-- whether two parameters are the same
 abbrev pub sameParameter : Parameter → Parameter → Bool
 sameParameter Size Size = true
 sameParameter Size Offset = false

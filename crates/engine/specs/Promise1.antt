@@ -54,7 +54,7 @@ pub record NumberAt (s : List ℕ) (at n to : ℕ) : Type 0 where
   pub small : n < 4294967296
   pub stands : Stands s at (numberBytes n) to
 
--- 1: "number cut off, too long or not shortest"
+-- 1: "a number is cut off, too long or not shortest"
 abbrev pub NoNumberAt : List ℕ → ℕ → Type 0
 NoNumberAt s at = (n to : ℕ) → NumberAt s at n to → ⊥
 
@@ -102,12 +102,13 @@ pub data Fault (s : List ℕ) (x : Refusal) (at : ℕ) (before : List ℕ) (f : 
   beyond : (n to : ℕ) → numberOf x ≡ 2 → NumberAt s at n to → ¬ Holds f before n → Fault s x at before f Later
   later : (n to : ℕ) → NumberAt s at n to → Holds f before n → Later n to → Fault s x at before f Later
 
+-- of the numbers in these ranges from a place on, the first at fault is refused with x
 unfoldable pub AtFault : List ℕ → Refusal → ℕ → List ℕ → List Range → Type 0
 AtFault s x at before [] = ⊥
 AtFault s x at before (f ∷ fs) = Fault s x at before f (λ n to. AtFault s x to (n ∷ before) fs)
 
--- the fixed bits of a header word: "6-0 0001011", "21-20 00", "26-25 00", "29-27 coupled dimension less one" (111 is none), "30 coupled"
--- (000 in 29-27 if it is not)
+-- the fixed bits of a header word: "bits 6-0 = 0001011", "21-20 = 00", "26-25 = 00", "Uncoupled needs 29-27 = 000; this and 111 there count
+-- as fixed bits"
 pub record FixedRight (w : ℕ) : Type 0 where
   pub opcode : bitsOf 0 7 w ≡ 11
   pub bits-20 : bitsOf 20 2 w ≡ 0
@@ -145,6 +146,7 @@ Configures (op.Modifier m) = Unit {0}
 Configures (op.End i) = Unit {0}
 Configures (op.Run i n) = ⊥
 
+-- a coupled dimension is 1 to 7
 abbrev pub CouplingInRange : Coupling → Type 0
 CouplingInRange Uncoupled = Unit {0}
 CouplingInRange (Coupled c) = (1 ≤ c) × (c ≤ 7)
@@ -207,6 +209,7 @@ pub record RunAt (s : List ℕ) (at loop : ℕ) (cs : List Placed) (to : ℕ) : 
 
 -- ---- the answer
 
+-- a machine and a memory together
 abbrev pub world : Machine → List ℕ → World
 world m memory = record { machine = m; memory = memory }
 
@@ -249,11 +252,12 @@ encodings frees [] = []
 encodings [] (o ∷ os) = operationBytes 0 o ++ encodings [] os
 encodings (free ∷ frees) (o ∷ os) = operationBytes free o ++ encodings frees os
 
+-- calculations in their encodings, one behind the other
 unfoldable pub bodyBytes : List Placed → List ℕ
 bodyBytes [] = []
 bodyBytes (c ∷ cs) = calculationBytes (c .calculation) ++ bodyBytes cs
 
--- of the operations that were done, with no run or with one at its end
+-- a sheet that is the encodings of the operations done, with no run or with one at its end
 pub data Encoded (s : List ℕ) : Type 0 where
   over : (frees : List ℕ) (os : List Operation) (m : Machine) → Before s os (length s) m → s ≡ encodings frees os → Encoded s
   with-run : (frees : List ℕ) (os : List Operation) (at : ℕ) (m : Machine) (loop : ℕ) (cs : List Placed) → Before s os at m → RunAt s at loop cs (length s)
@@ -277,6 +281,7 @@ pub record Unrefused : Type 0 where
 
 -- ---- the promise
 
+-- promise 1 for a vector length, a sheet and a memory: one right answer, which the run gives
 pub record Promise1 (vl : ℕ) (s memory : List ℕ) : Type 0 where
   -- the run's answer is right, and the only right one
   pub right : Right vl s memory (run vl s memory)

@@ -33,6 +33,7 @@ pub record Streams (vl : ℕ) (os : List Operation) (m : Machine) (memory : List
   pub is-ended : givenFor loop os ≡ ended stream
   pub all : r .verdict ≡ Done → movedOf (ran .entries) loop ≡ elements (patternOf stream .shape)
 
+-- promise 2 for a vector length, a sheet and a memory: each element once, at every moment
 pub record Promise2 (vl : ℕ) (s memory : List ℕ) : Type 0 where
   -- while the sheet configures
   pub prepared : (os : List Operation) (at : ℕ) (m : Machine) → Before s os at m → Prepared os m

@@ -30,10 +30,12 @@ flagChecks i d r =
 abbrev pub endOfStreamChecks : ℕ → Register → List Check
 endOfStreamChecks i r = OutOfRange if ltb 31 i ∷ WrongState if not (isOpen (r .state) || isFinished (r .state)) ∷ []
 
+-- yes if it is so, else no
 abbrev pub yesOrNo : Bool → Told
 yesOrNo Bool.true = Yes
 yesOrNo Bool.false = No
 
+-- the refusal if there is one, else yes or no
 abbrev pub unless : Why → Bool → Told
 unless Nothing b = yesOrNo b
 unless (Because x) b = Untold x

@@ -26,42 +26,49 @@ use Rattle.engine.specs.declared.register.State.the-variants.{Plain, Con
 use Rattle.engine.specs.declared.register.Register.{Register}
 use Rattle.engine.specs.declared.register.Machine.{Machine}
 
--- "A register is plain, being configured, open or finished"
+-- "A register is plain, being configured, open or finished": whether it is being configured
 abbrev pub isConfiguring : State → Bool
 isConfiguring Plain = false
 isConfiguring Configuring = true
 isConfiguring Open = false
 isConfiguring Finished = false
 
+-- whether a register is open
 abbrev pub isOpen : State → Bool
 isOpen Plain = false
 isOpen Configuring = false
 isOpen Open = true
 isOpen Finished = false
 
+-- whether a register is finished
 abbrev pub isFinished : State → Bool
 isFinished Plain = false
 isFinished Configuring = false
 isFinished Open = false
 isFinished Finished = true
 
+-- whether a stream is a load
 abbrev pub isLoad : Kind → Bool
 isLoad Load = true
 isLoad Store = false
 
+-- whether a register's stream is an open load
 abbrev pub openLoad : Register → Bool
 openLoad r = isOpen (r .state) && isLoad (r .kind)
 
+-- whether a register's stream is an open store
 abbrev pub openStore : Register → Bool
 openStore r = isOpen (r .state) && not (isLoad (r .kind))
 
--- no descriptors yet
+-- what stands in the place of a modifier that was not given
 abbrev pub noModifier : Modifier
 noModifier = record { owner = 0; target = 0; parameter = Size; behaviour = Add; displacement = 0 }
 
+-- a shape with no dimension and no modifier yet
 abbrev pub noShape : Shape
 noShape = record { dims = 0; sizes = replicate 7 0; mods = 0; modifiers = replicate 8 noModifier; coupling = Uncoupled }
 
+-- a pattern with no descriptors yet
 abbrev pub noPattern : Pattern
 noPattern = record { shape = noShape; base = noBytes; offsets = replicate 7 noBytes; strides = replicate 7 noElements }
 
@@ -139,8 +146,10 @@ movedBy n r = movedTo (r .moved + n) r
 abbrev pub freshMachine : Machine
 freshMachine = record { registers = replicate 32 fresh }
 
+-- register i of a machine
 abbrev pub reg : Machine → ℕ → Register
 reg m i = getD (m .registers) i noRegister
 
+-- the machine with r as its register i
 abbrev pub put : Machine → ℕ → Register → Machine
 put m i r = record { registers = set (m .registers) i r }

@@ -22,6 +22,7 @@ use Rattle.engine.specs.declared.stream.Shape.{Shape}
 abbrev pub lastIndex : ℕ → ℕ
 lastIndex high = max 1 high - 1
 
+-- whether two behaviours are the same
 abbrev pub sameBehaviour : Behaviour → Behaviour → Bool
 sameBehaviour Add Add = true
 sameBehaviour Add Subtract = false
@@ -55,6 +56,7 @@ lowOrHighFrom s d (suc n) =
     || ltb 4096 (highAt s d (map lastIndex (highs s (suc d) n)))
     || lowOrHighFrom s (suc d) n
 
+-- "Low below 0 or high above 4,096 is refused": of all dimensions of a shape
 abbrev pub lowOrHigh : Shape → Bool
 lowOrHigh s = lowOrHighFrom s 0 (s .dims)
 
@@ -63,5 +65,6 @@ unfoldable pub product : List ℕ → ℕ
 product [] = 1
 product (h ∷ hs) = max 1 h * product hs
 
+-- the highs of all dimensions of a shape, innermost first
 abbrev pub highsOf : Shape → List ℕ
 highsOf s = highs s 0 (s .dims)

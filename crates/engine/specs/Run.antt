@@ -32,6 +32,7 @@ stepped Nothing place w g =
     record { world = w; report = record { passes = g .report .passes; calculations = g .report .calculations + 1 }; verdict = Done }
 stepped (Because x) place w g = record { world = g .world; report = g .report; verdict = Refused x place }
 
+-- one calculation of a body: done and counted, or refused at its place and nothing altered
 abbrev pub step : ℕ → Placed → Progress → Progress
 step vl c g = stepped (refusalOf vl (c .calculation) (g .world)) (c .place) (effect vl (c .calculation) (g .world)) g
 

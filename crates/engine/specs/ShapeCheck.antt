@@ -20,11 +20,11 @@ unfoldable pub some : {A : Type 0} → (A → Bool) → List A → Bool
 some p [] = false
 some p (x ∷ xs) = p x || some p xs
 
--- "dimension size 0 to 4,096"
+-- "dimension size | 0 to 4,096": a size is out of that range
 abbrev pub tooLarge : ℕ → Bool
 tooLarge size = ltb 4096 size
 
--- "displacement of a modifier 0 to 1,048,576"
+-- "displacement of a modifier | 0 to 1,048,576": a displacement is out of that range
 abbrev pub farMoved : Modifier → Bool
 farMoved m = ltb 1048576 (m .displacement)
 

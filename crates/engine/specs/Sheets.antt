@@ -33,10 +33,12 @@ pub data Calculations : Type 0 where
   whole : List Placed → ℕ → Calculations
   broken : Refusal → ℕ → Calculations
 
+-- a calculation in front of those behind it, or the refusal of one of these
 abbrev pub before : Placed → Calculations → Calculations
 before c (whole cs at) = whole (c ∷ cs) at
 before c (broken x place) = broken x place
 
+-- a calculation that was read, with its place, before the rest of the body; or its refusal
 abbrev pub onCalculation : Body → ℕ → (ℕ → Calculations) → Calculations
 onCalculation (body.Refused x place) at rest = broken x place
 onCalculation (body.Calculation c next) at rest = before (record { place = at; calculation = c }) (rest (next .at))
@@ -68,6 +70,7 @@ endingOf s place loop m (broken x at) = refused x at
 endingOf s place loop m (whole cs at) =
     cond (ltb at (length s)) (refused OutOfRange at) (cond (isLoopRegister loop cs m) (runs loop cs) (refused LoopRegister place))
 
+-- what a sheet's operations leave: the machine, and how they end
 pub record Prepared : Type 0 where
   pub machine : Machine
   pub ending : Ending
@@ -77,6 +80,7 @@ abbrev pub onOperation : Why → ℕ → Machine → (Machine → Prepared) → 
 onOperation Nothing place m rest n = rest n
 onOperation (Because x) place m rest n = record { machine = m; ending = refused x place }
 
+-- an operation as it was read: a refusal ends the sheet, a run its operations; any other is done before the rest
 abbrev pub onDecoded : List ℕ → ℕ → Machine → Decoded → (ℕ → Machine → Prepared) → Prepared
 onDecoded s at m (decoded.Refused x place) rest = record { machine = m; ending = refused x place }
 onDecoded s at m (decoded.Operation (op.Run loop count) next) rest =
@@ -106,6 +110,7 @@ prepare s m = operationsFrom (length s) s 0 m
 abbrev pub allowed : ℕ → ℕ → Bool
 allowed vl len = leb 8 vl && leb vl 64 && eqb (vl % 8) 0 && leb len 65536
 
+-- a refusal before the first pass: both counts are 0
 abbrev pub refusedAt : World → Refusal → ℕ → Progress
 refusedAt w x place = record { world = w; report = record { passes = 0; calculations = 0 }; verdict = Refused x place }
 

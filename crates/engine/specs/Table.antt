@@ -48,10 +48,12 @@ pub data Answer : Type 0 where
   done : ℕ → ℕ → Answer
   refusal : ℕ → ℕ → ℕ → ℕ → Answer
 
+-- the answer of a verdict and both counts, by 01's numbers
 unfoldable pub answerOf : Verdict → Report → Answer
 answerOf Done r = done (r .passes) (r .calculations)
 answerOf (Refused x place) r = refusal (numberOf x) place (r .passes) (r .calculations)
 
+-- the answer of a run
 unfoldable pub answer : Progress → Answer
 answer g = answerOf (g .verdict) (g .report)
 
@@ -61,19 +63,23 @@ pub data Heard : Type 0 where
   no : Heard
   untold : ℕ → Heard
 
+-- what is told, with a refusal's number
 unfoldable pub heard : Told → Heard
 heard Yes = yes
 heard No = no
 heard (Untold x) = untold (numberOf x)
 
+-- what the question for the flag of dimension d of register i is told
 unfoldable pub askedFlag : Machine → ℕ → ℕ → Heard
 askedFlag m i d = heard (askFlag m i d)
 
+-- what the question for the end of stream of register i is told
 unfoldable pub askedEnd : Machine → ℕ → Heard
 askedEnd m i = heard (askEnd m i)
 
 -- ---- what is looked at
 
+-- register i of a machine
 unfoldable pub register : ℕ → Machine → Register
 register i m = reg m i
 
@@ -94,9 +100,11 @@ pub record Seen : Type 0 where
   pub flag2 : Heard
   pub end : Heard
 
+-- so many valid lanes, the flags of dimensions 1 and 2, the end of stream
 unfoldable pub seen : ℕ → Heard → Heard → Heard → Seen
 seen n a b e = record { lanes = n; flag1 = a; flag2 = b; end = e }
 
+-- what is seen of a machine's register 1
 unfoldable pub lookedAt : Machine → Seen
 lookedAt m = seen (register 1 m .valid) (askedFlag m 1 1) (askedFlag m 1 2) (askedEnd m 1)
 
@@ -105,6 +113,7 @@ unfoldable pub trail : ℕ → List Placed → ℕ → Progress → List Seen
 trail vl cs zero g = []
 trail vl cs (suc n) g = let q : Progress = counted (pass vl cs g) in lookedAt (q .world .machine) ∷ trail vl cs n q
 
+-- after each of n passes of a sheet's run, if there is one
 unfoldable pub trailOf : ℕ → ℕ → World → Ending → List Seen
 trailOf vl n w over = []
 trailOf vl n w (runs loop cs) = trail vl cs n (begun w)

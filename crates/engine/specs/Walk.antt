@@ -21,16 +21,18 @@ module _ (size : ℕ → List ℕ → ℕ) where
   todo zero d i env = span (λ k. loops size 0 d (k ∷ env)) i (size d env - i)
   todo (suc m) d i env = span (λ k. loops size 0 d (k ∷ env)) i (size d env - i) ++ todo m (suc d) (suc (getD env 0 0)) (drop 1 env)
 
--- as many steps as a search makes
+-- f k + f (k + 1) + .., n of them
 unfoldable pub sum : (ℕ → ℕ) → ℕ → ℕ → ℕ
 sum f k zero = 0
 sum f k (suc n) = f k + sum f (suc k) n
 
 module _ (size : ℕ → List ℕ → ℕ) where
+  -- the turns of one pass of the first d dimensions, while those outside them stand at env
   unfoldable pub within : ℕ → List ℕ → ℕ
   within zero env = 0
   within (suc d) env = suc (sum (λ k. suc (within d (k ∷ env))) 0 (size d env))
 
+  -- the turns still to take, where dimension d is about to run index i and there are m dimensions outside it
   unfoldable pub cost : ℕ → ℕ → ℕ → List ℕ → ℕ
   cost zero d i env = suc (sum (λ k. suc (within d (k ∷ env))) i (size d env - i))
   cost (suc m) d i env = suc (sum (λ k. suc (within d (k ∷ env))) i (size d env - i)) + cost m (suc d) (suc (getD env 0 0)) (drop 1 env)
@@ -44,6 +46,7 @@ module _ (size : ℕ → List ℕ → ℕ) (n : ℕ) where
   abbrev pub after : List ℕ → List (List ℕ)
   after v = at 0 (set v 0 (getD v 0 0 + 1))
 
+  -- the same in n dimensions, where dimension d is about to run the index that v has there
   abbrev pub costAt : ℕ → List ℕ → ℕ
   costAt d v = cost size (n - suc d) d (getD v d 0) (drop (suc d) v)
 
