@@ -37,6 +37,7 @@ pub record Is (z : ℤ) (n : ℕ) (r : ℤ) : Type 0 where
   pub exact : r ≡ z
   pub most : natAbs r ≤ n
 
+-- -n is n, sign aside
 abs-neg : (n : ℕ) → natAbs (negℤ (pos n)) ≡ n
 abs-neg zero = refl
 abs-neg (suc n) = refl
@@ -45,9 +46,11 @@ abs-neg (suc n) = refl
 abbrev pub Small : List ℕ → Type 0
 Small v = (k : ℕ) → getD v k 0 ≤ 4096
 
+-- small indices are small from any dimension on
 pub small-drop : (n : ℕ) (v : List ℕ) → Small v → Small (drop n v)
 small-drop n v h k = rw (getD-drop n v k 0) (h (n + k))
 
+-- what one modifier adds to a parameter is at most 2^32, sign aside
 share-most : (q : Parameter) (d : ℕ) (outer : List ℕ) (m : Modifier) → Small outer → m .displacement ≤ 1048576 → natAbs (share q d outer m) ≤ 2 ^ 32
 share-most q d outer m h p = go (sameParameter (m .parameter) q && eqb (m .target) d) (m .behaviour)
   where
@@ -62,6 +65,7 @@ share-most q d outer m h p = go (sameParameter (m .parameter) q && eqb (m .targe
     go true Subtract = omega (arith, abs-neg k, few)
     go false b = omega arith
 
+-- what n modifiers add to a parameter is at most n x 2^32, sign aside
 added-most : (q : Parameter) (d : ℕ) (outer : List ℕ) (ms : List Modifier) (n : ℕ) → Small outer
     → ((k : ℕ) → k < n → getD ms k noModifier .displacement ≤ 1048576) → natAbs (added q d outer (take n ms)) ≤ n * 2 ^ 32
 unfolding added
@@ -76,6 +80,7 @@ added-most q d outer (m ∷ ms) (suc n) h p =
       added-most q d outer ms n h (λ k r. p (suc k) (omega arith)),
     )
 
+-- what the modifiers of a shape in range add to a parameter is at most 2^35, sign aside
 shape-most : (q : Parameter) (d : ℕ) (outer : List ℕ) (s : Shape) → Ranged s → Small outer → natAbs (added q d outer (modifiersOf s)) ≤ 2 ^ 35
 shape-most q d outer s r h = omega (arith, added-most q d outer (s .modifiers) (s .mods) h (λ k p. r .modifier k p .displaced), r .mods)
 
@@ -120,6 +125,7 @@ address-fits p r width w v h = omega (arith, address-most p r width w v h (p .sh
 
 -- ---- the next in a row
 
+-- an integer times a sum is the sum of both products
 mul-add-right : (z : ℤ) (a b : ℕ) → z *ℤ pos (a + b) ≡ z *ℤ pos a +ℤ z *ℤ pos b
 mul-add-right (pos n) a b = ap pos (mul-add n a b)
 mul-add-right (negsuc n) a b = ap (λ k. negℤ (pos k)) (mul-add (suc n) a b) ∙ negℤ-+ℤ (pos (suc n * a)) (pos (suc n * b))
@@ -130,6 +136,7 @@ bytes-next stride i width =
     let z : suc i * width ≡ i * width + 1 * width = omega (arith, suc-mul i width, one-mul width) in
     ap (λ n. stride *ℤ pos n) z ∙ mul-add-right stride (i * width) (1 * width)
 
+-- of three summands the last two may change places
 swap : (a b c : ℤ) → (a +ℤ b) +ℤ c ≡ (a +ℤ c) +ℤ b
 swap a b c = +ℤ-assoc a b c ∙ ap (λ y. a +ℤ y) (+ℤ-comm b c) ∙ sym (+ℤ-assoc a c b)
 

@@ -83,6 +83,7 @@ passed s h d q =
 
 -- ---- sizes
 
+-- if a - b is not negative, b is at most a
 sub-nonneg : (a b : ℕ) → nonNeg (subℕ a b) ≡ true → b ≤ a
 sub-nonneg a b e = go (ltb a b) refl
   where
@@ -97,6 +98,7 @@ pub record Bounded (s : Shape) (d : ℕ) (outer : List ℕ) : Type 0 where
   pub high : sizeAt s d outer ≤ highAt s d (lastsFrom s (suc d))
   pub most : highAt s d (lastsFrom s (suc d)) ≤ 4096
 
+-- so it is in each dimension of a shape that neither low nor high refuses
 pub bounded : (s : Shape) → lowOrHigh s ≡ false → (d : ℕ) → d < s .dims → (outer : List ℕ) → Under s (suc d) outer → Bounded s d outer
 bounded s h d q outer u =
     let p : Passed s d = passed s h d q in
@@ -149,6 +151,7 @@ highs-next s d h = let e : s .dims - d ≡ suc (s .dims - suc d) = omega arith i
 pub lasts-next : (s : Shape) (d : ℕ) → d < s .dims → lastsFrom s d ≡ lastIndex (highAt s d (lastsFrom s (suc d))) ∷ lastsFrom s (suc d)
 lasts-next s d h = ap (map lastIndex) (highs-next s d h)
 
+-- one index more in front, at most the one on the other side: still none is larger than on the other side
 cons-le : (i j : ℕ) (xs ys : List ℕ) → i ≤ j → ((k : ℕ) → getD xs k 0 ≤ getD ys k 0) → (k : ℕ) → getD (i ∷ xs) k 0 ≤ getD (j ∷ ys) k 0
 cons-le i j xs ys p h zero = p
 cons-le i j xs ys p h (suc k) = h k
@@ -198,6 +201,7 @@ at-under s k = go (ltb k (length (elements s))) refl
     go true p = element-under s (getD (elements s) k []) (getD-part (elements s) k [] (ltb-true k (length (elements s)) p))
     go false p = subst (λ v. Under s 0 v) (sym (List·getD-eq-default (elements s) [] (ltb-false k (length (elements s)) p))) (λ j. omega arith)
 
+-- the last indices by the highs of dimensions that 8 does not refuse are below 4,096
 lasts-small : (s : Shape) (n d : ℕ) → lowOrHighFrom s d n ≡ false → (k : ℕ) → getD (map lastIndex (highs s d n)) k 0 ≤ 4095
 unfolding highs
 lasts-small s zero d h k = omega arith

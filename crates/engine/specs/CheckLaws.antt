@@ -32,9 +32,10 @@ first-append (x ∷ xs) ys = go (x .applies) (first-append xs ys)
     go true e = refl
     go false e = e
 
--- where the first list refuses, so does the whole; where it does not, the second decides
+-- where the first list refuses, so does the whole
 pub first-stops : (xs ys : List Check) (w : Why) {x : Refusal} → firstOf xs ≡ w → w ≡ Because x → firstOf (xs ++ ys) ≡ w
 first-stops xs ys w e f = first-append xs ys ∙ rw (e ∙ f, f)
 
+-- where the first list does not refuse, the second decides
 pub first-goes : (xs ys : List Check) → firstOf xs ≡ Nothing → firstOf (xs ++ ys) ≡ firstOf ys
 first-goes xs ys e = first-append xs ys ∙ rw e

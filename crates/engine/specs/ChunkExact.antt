@@ -33,6 +33,7 @@ pub chunk-at : (s : Shape) (n : ℕ) (vs : List (List ℕ)) → vs ≡ take (len
 chunk-at s n vs e k h = ap (λ l. getD l k []) e ∙ getD-take (length vs) (drop n (elements s)) k [] h ∙ getD-drop n (elements s) k []
 
 module _ (s : Shape) (lanes n : ℕ) where
+  -- a chunk does not pass the end of the stream
   within : (vs : List (List ℕ)) → Chunk s lanes n vs → length vs ≤ length (elements s) - n
   within vs c = omega (arith, ap length (c .front) ∙ length-take (length vs) (drop n (elements s)), length-drop n (elements s))
 
@@ -79,6 +80,7 @@ left-by gs n (suc k) h =
     ap (leftInGroup gs) e ∙ omega (arith, left-step gs (n + k) (omega arith))
 
 module _ (s : Shape) (a : Accepted s) where
+  -- the coupled dimension is there
   cover : Covered (s .dims) (s .coupling)
   cover = covered s (s .coupling) (a .covered)
 

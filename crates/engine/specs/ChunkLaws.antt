@@ -28,6 +28,7 @@ use Rattle.engine.specs.GroupLaws.{join, join-append, join-withElements,
 use Rattle.engine.specs.Configure.{uncovered}
 use Rattle.engine.specs.declared.stream.Shape.{Shape}
 
+-- what f gives of all members, joined, is what it gives part by part, joined
 span-join : {A B : Type 0} (f : A → List B) (g : ℕ → List A) (h : ℕ → List B) (k n : ℕ)
     → ((i : ℕ) → join (map f (g i)) ≡ h i) → join (map f (span g k n)) ≡ span h k n
 unfolding span join
@@ -38,6 +39,7 @@ span-join f g h k (suc n) e =
     ∙ ap (λ l. l ++ join (map f (span g (suc k) n))) (e k)
     ∙ ap (λ l. h k ++ l) (span-join f g h (suc k) n e)
 
+-- the loops of c dimensions inside each turn of the m outside them, joined, are the loops of all
 loops-join : (size : ℕ → List ℕ → ℕ) (c m : ℕ) (outer : List ℕ) → join (map (loops size 0 c) (loops size c m outer)) ≡ loops size 0 (c + m) outer
 unfolding loops join
 loops-join size c zero outer = rw (add-zero c) (append-nil (loops size 0 c outer))
@@ -68,6 +70,7 @@ groups-join size D Uncoupled h = join-withElements _ ∙ append-nil (loops size 
 groups-join size D (Coupled c) h = join-withElements _ ∙ passes-join size c D h
 
 module _ {A : Type 0} where
+  -- no more can be taken than there are
   take-min : (k : ℕ) (l : List A) → take (min k (length l)) l ≡ take k l
   take-min k l = go (decLe k (length l))
     where

@@ -75,6 +75,7 @@ split n r e =
     (ap (λ l. take n (drop (r .moved) (elements (shapeOf r))) ++ l) (sym (drop-drop n (r .moved) (elements (shapeOf r))))
     ∙ take-append-drop n (drop (r .moved) (elements (shapeOf r))))
 
+-- an open stream has its coupled dimension
 open-covered : (vl : ℕ) (r : Register) → Good vl r → isOpen (r .state) ≡ true → Covered (shapeOf r .dims) (shapeOf r .coupling)
 open-covered vl r g e = covered (shapeOf r) (shapeOf r .coupling) (g .opened e .0 .accepted .covered)
 
@@ -90,6 +91,7 @@ pub next-lanes : (vl : ℕ) (r : Register) → length (nextChunk vl r) ≤ vl / 
 unfolding nextChunk
 next-lanes vl r = chunk-lanes (groupsOf (shapeOf r)) (vl / r .width) (r .moved)
 
+-- of an open stream as many are to come as have not moved
 come-length : (r : Register) → isOpen (r .state) ≡ true → length (toCome r) ≡ length (elements (shapeOf r)) - r .moved
 come-length r e = ap length (come-open r e) ∙ length-drop (r .moved) (elements (shapeOf r))
 
@@ -124,6 +126,7 @@ stream-moved n r = ended-stream (leb (length (elements (shapeOf r))) (r .moved +
 pub open-some : (vl : ℕ) (r : Register) → Good vl r → isOpen (r .state) ≡ true → 0 < length (toCome r)
 open-some vl r g e = omega (arith, come-length r e, g .opened e .1)
 
+-- a finished register is not open
 finished-shut : (k : State) → isFinished k ≡ true → isOpen k ≡ false
 finished-shut Plain e = refl
 finished-shut Configuring e = refl
@@ -145,7 +148,7 @@ none-shut vl r g h = go (isOpen (r .state)) refl
     go false e = refl
     go true e = absurd (omega (arith, open-some vl r g e))
 
--- "with n = 0 nothing moves": an open stream that moves on by nothing is as it was
+-- "n = 0 moves nothing": an open stream that moves on by nothing is as it was
 pub stays : (vl : ℕ) (r : Register) → Good vl r → r .state ≡ Open → movedBy 0 r ≡ r
 unfolding movedBy
 stays vl r g e =

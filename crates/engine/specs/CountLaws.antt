@@ -24,6 +24,7 @@ unfoldable pub begun : (ℕ → List ℕ → ℕ) → ℕ → ℕ → List ℕ �
 begun size d zero outer = 0
 begun size d (suc n) outer = total (λ k. 1 + begun size d n (k ∷ outer)) 0 (size (d + n) outer)
 
+-- the length of parts in a row is the sum of their lengths
 length-span : {A : Type 0} (f : ℕ → List A) (k n : ℕ) → length (span f k n) ≡ total (λ i. length (f i)) k n
 unfolding span total
 length-span f k zero = refl
@@ -42,10 +43,12 @@ pub product-next : (s : Shape) (d : ℕ) → d < s .dims
 unfolding product
 product-next s d h = ap product (highs-next s d h)
 
+-- the product over no dimension is 1
 no-highs : (s : Shape) (d : ℕ) → product (highs s d 0) ≡ 1
 unfolding product highs
 no-highs s d = refl
 
+-- the last two of three factors may change places
 turn : (l m q : ℕ) → l * (m * q) ≡ l * q * m
 turn l m q = ap (λ y. l * y) (mul-comm m q) ∙ sym (mul-assoc l q m)
 

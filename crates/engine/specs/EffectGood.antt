@@ -22,6 +22,7 @@ use Rattle.engine.specs.EffectLaws.{effect-reg, effect-length, read-open
 use Rattle.engine.specs.declared.check.Why.the-variants.{Nothing}
 use Rattle.engine.specs.declared.register.Register.{Register}
 
+-- packed lanes are 64 bytes
 packed-length : (width : ℕ) (xs : List ℕ) → length (packed width xs) ≡ 64
 packed-length width xs = omega (arith, length-take 64 (joined width xs ++ replicate 64 0), length-append (joined width xs) (replicate 64 0))
 

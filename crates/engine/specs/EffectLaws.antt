@@ -32,6 +32,7 @@ use Rattle.engine.specs.declared.register.Machine.{Machine}
 
 -- ---- each register
 
+-- what stands at place i once x is put at place k: x if i is k, else what stood there
 getD-set : {A : Type 0} (l : List A) (k i : ℕ) (x z : A) → i < length l → getD (set l k x) i z ≡ cond (eqb i k) x (getD l i z)
 getD-set l k i x z h = go (eqb i k) refl
   where
@@ -45,6 +46,7 @@ changed vl c w i =
     cond (eqb i (c .destination)) (writtenTo (reg (w .machine) (c .first) .width) (results vl c w) (reg (w .machine) i))
     (cond (eqb i (c .first) || eqb i (c .second)) (readFrom vl (w .memory) (reg (w .machine) i)) (reg (w .machine) i))
 
+-- where i is k, what is made of register k is made of register i
 at-same : (m : Machine) (f : Register → Register) (i k : ℕ) (y : Register) → cond (eqb i k) (f (reg m k)) y ≡ cond (eqb i k) (f (reg m i)) y
 at-same m f i k y = go (eqb i k) refl
   where
@@ -52,6 +54,7 @@ at-same m f i k y = go (eqb i k) refl
     go true e = ap (λ j. f (reg m j)) (sym (eqb-true i k e))
     go false e = refl
 
+-- x if b, else x if a, is x if either holds
 either : (a b : Bool) (x y : Register) → cond b x (cond a x y) ≡ cond (a || b) x y
 either true true x y = refl
 either true false x y = refl
@@ -102,6 +105,7 @@ pub written-shut : (width : ℕ) (xs : List ℕ) (r : Register) → isOpen (r .s
 unfolding writtenTo
 written-shut width xs r e = rw e
 
+-- memory keeps its length when lanes are stored
 stored-length : (p : Pattern) (width : ℕ) (memory : List ℕ) (vs : List (List ℕ)) (xs : List ℕ) → length (stored p width memory vs xs) ≡ length memory
 unfolding stored
 stored-length p width memory [] xs = refl
@@ -141,6 +145,7 @@ given-fits vl memory r g = go (isOpen (r .state))
         omega (arith, mul-le-mul-right (r .width) l, div-mul-le-self vl (r .width))
     go false = subst (λ n. n * r .width ≤ vl) (sym (length-lanes (r .lanes) (r .width) 0 (r .valid))) (g .valid)
 
+-- lane by lane, of equally many lanes come as many
 pub lanewise-length : (f : ℕ → ℕ → ℕ) (xs ys : List ℕ) → length xs ≡ length ys → length (lanewise f xs ys) ≡ length xs
 unfolding lanewise
 lanewise-length f [] ys e = refl
@@ -166,6 +171,7 @@ results-length vl c w e =
 pub open-store : (r : Register) → openLoad r ≡ false → isOpen (r .state) ≡ true → openStore r ≡ true
 open-store r e p = rw (p, and-false (isOpen (r .state)) (isLoad (r .kind)) e p)
 
+-- an open destination that 10 and 13 do not refuse has a next chunk of at least n
 store-room : (vl n m : ℕ) (d : Register) → (not (eqb n m) || openStore d && ltb (length (nextChunk vl d)) n) ≡ false → openLoad d ≡ false
     → isOpen (d .state) ≡ true → n ≤ length (nextChunk vl d)
 store-room vl n m d e k o =

@@ -34,14 +34,17 @@ orAbove-step : (n h k : ℕ) → n ≤ 1 → (orAbove n h ≤ suc k) ↔ (h ≤ 
 orAbove-step n zero k p = (λ q. omega arith, λ q. omega arith)
 orAbove-step n (suc h) k p = (λ q. omega arith, λ q. omega arith)
 
+-- no difference in all: none here and none above
 orAbove-none : (n h : ℕ) → orAbove n h ≤ 0 → (n ≤ 0) × (h ≤ 0)
 orAbove-none n zero p = (p, omega arith)
 orAbove-none n (suc h) p = absurd (omega arith)
 
+-- a place counts for at most 1
 here-low : (b : Bool) → cond b 0 1 ≤ 1
 here-low true = omega arith
 here-low false = omega arith
 
+-- a place that counts for 0 has the same index on both sides
 here-none : (b : Bool) → cond b 0 1 ≤ 0 → b ≡ true
 here-none true e = refl
 here-none false e = absurd (omega arith)
@@ -52,6 +55,7 @@ unfolding differ
 differ-self [] = refl
 differ-self (i ∷ u) = rw (eq-eqb i i refl, differ-self u)
 
+-- equally long vectors that differ nowhere are the same
 same : (u v : List ℕ) → length u ≡ length v → differ u v ≤ 0 → u ≡ v
 unfolding differ
 same [] [] e h = refl
@@ -178,10 +182,11 @@ differ-pad [] (j ∷ v) n e = absurd (omega arith)
 differ-pad (i ∷ u) [] n e = absurd (omega arith)
 differ-pad (i ∷ u) (j ∷ v) n e = ap (orAbove (cond (eqb i j) 0 1)) (differ-pad u v n (omega arith))
 
--- read from the outermost place inward: equal from place d on, the vectors differ at most at d; where they differ just below d, that is it
+-- vectors that are the same from place d on have no difference above dimension d, counted from 1
 pub differ-from : (d : ℕ) (u v : List ℕ) → length u ≡ length v → drop d u ≡ drop d v → differ u v ≤ d
 differ-from d u v e h = differ-drop d u v e .1 h
 
+-- vectors that are the same above place d, and not at it, have their highest difference there
 pub differ-at : (d : ℕ) (u v : List ℕ) → length u ≡ length v → drop (suc d) u ≡ drop (suc d) v → (getD u d 0 ≡ getD v d 0 → ⊥) → differ u v ≡ suc d
 differ-at d u v e h k =
     let a : differ u v ≤ suc d = differ-from (suc d) u v e h in

@@ -72,6 +72,7 @@ sub-less a b h = rw (lt-ltb a b h)
 pub sub-pos : (a b : ℕ) → b ≤ a → subℕ a b ≡ pos (a - b)
 sub-pos a b h = rw (le-ltb a b h)
 
+-- a - b is c - d if a + d is c + b
 sub-same : (a b c d : ℕ) → a + d ≡ c + b → subℕ a b ≡ subℕ c d
 sub-same a b c d e = go (ltb a b) refl
   where
@@ -85,6 +86,7 @@ sub-same a b c d e = go (ltb a b) refl
         let z : a - b ≡ c - d = omega arith in
         sub-pos a b q ∙ ap pos z ∙ sym (sub-pos c d (omega arith))
 
+-- x + (u - v) is (x + u) - v, in exact integers
 pos-sub : (x u v : ℕ) → pos x +ℤ subℕ u v ≡ subℕ (x + u) v
 pos-sub x u v = go (ltb u v) refl
   where
@@ -95,6 +97,7 @@ pos-sub x u v = go (ltb u v) refl
         let z : x + (u - v) ≡ x + u - v = omega arith in
         ap (λ y. pos x +ℤ y) (sub-pos u v q) ∙ ap pos z ∙ sym (sub-pos (x + u) v (omega arith))
 
+-- -x + (u - v) is u - (x + v), in exact integers
 neg-sub : (x u v : ℕ) → negℤ (pos x) +ℤ subℕ u v ≡ subℕ u (x + v)
 neg-sub zero u v = +ℤ-idl (subℕ u v) ∙ sub-same u v u (0 + v) (omega arith)
 neg-sub (suc y) u v = go (ltb u v) refl
@@ -106,6 +109,7 @@ neg-sub (suc y) u v = go (ltb u v) refl
         ap (λ w. negsuc y +ℤ w) (sub-less u v q) ∙ ap negsuc z ∙ sym (sub-less u (suc y + v) (omega arith))
     go false p = let q : v ≤ u = ltb-false u v p in ap (λ w. negsuc y +ℤ w) (sub-pos u v q) ∙ sub-same (u - v) (suc y) u (suc y + v) (omega arith)
 
+-- an exact difference, cut off at 0, is the difference of natural numbers
 natural-sub : (a b : ℕ) → natural (subℕ a b) ≡ a - b
 natural-sub a b = go (ltb a b) refl
   where
@@ -171,6 +175,7 @@ gain-only q b d outer (m ∷ ms) = go (sameBehaviour (m .behaviour) b) refl (gai
     go true e ih = ap (λ y. gainOf q b d outer m + y) ih
     go false e ih = ih ∙ omega (arith, gainOf-off q b d outer m e)
 
+-- what has one behaviour has not the other
 apart : (a b c : Behaviour) → sameBehaviour b c ≡ false → sameBehaviour a b ≡ true → sameBehaviour a c ≡ false
 apart Add Add c h e = h
 apart Subtract Subtract c h e = h
@@ -205,6 +210,7 @@ low-nat s d lasts =
     ∙ sub-same (getD (s .sizes) d 0 + u) v (getD (s .sizes) d 0) (gain Size Subtract d lasts (modifiersOf s))
     (omega (arith, gain-only Size Subtract d lasts (modifiersOf s), gain-none Size Subtract Add d lasts (modifiersOf s) refl))
 
+-- of two amounts that both count or both do not, the larger counts for at least as much
 cond-mono : (h : Bool) (x y : ℕ) → x ≤ y → cond h x 0 ≤ cond h y 0
 cond-mono true x y e = e
 cond-mono false x y e = omega arith

@@ -92,6 +92,7 @@ pub record First (cs : List Check) (x : Refusal) : Type 0 where
   pub split : cs ≡ before ++ (x if true ∷ rest)
   pub passed : firstOf before ≡ Nothing
 
+-- the first check that applies is the one in front, or the first of the others
 first-step : (y : Refusal) (b : Bool) (cs : List Check) (x : Refusal) → firstOf (y if b ∷ cs) ≡ Because x → (firstOf cs ≡ Because x → First cs x) → First (y if b ∷ cs) x
 unfolding firstOf
 first-step y true cs x e h = let z : y ≡ x = cc in record { before = []; rest = cs; split = ap (λ w. w if true ∷ cs) z; passed = refl }
@@ -105,6 +106,7 @@ unfolding firstOf
 first-because [] x e = absurd (let z : _≡_ {A = ℕ} 0 1 = cc in omega arith)
 first-because (c ∷ cs) x e = first-step (c .refusal) (c .applies) cs x e (first-because cs x)
 
+-- behind checks of which none applies, one that applies gives its refusal
 skip : (before : List Check) (x : Refusal) (rest : List Check) → firstOf before ≡ Nothing → firstOf (before ++ (x if true ∷ rest)) ≡ Because x
 unfolding firstOf
 skip [] x rest e = refl
@@ -124,6 +126,7 @@ all-same zero d a = refl
 all-same (suc n) zero a = refl
 all-same (suc n) (suc d) a = all-same n d a
 
+-- a shape with no descriptors yet is in range
 bare-shape : (coupling : Coupling) → Ranged (record { dims = 0; sizes = noShape .sizes; mods = 0; modifiers = noShape .modifiers; coupling = coupling })
 bare-shape coupling = record {
   dims = omega arith;
@@ -134,6 +137,7 @@ bare-shape coupling = record {
   modifier = λ k h. absurd (omega arith);
 }
 
+-- a pattern with no descriptors yet and a base in range is in range
 bare : (coupling : Coupling) (base : Bytes) → natAbs (base .0) ≤ 1048576
     → RangedPattern (record {
       shape = record { dims = 0; sizes = noShape .sizes; mods = 0; modifiers = noShape .modifiers; coupling = coupling };
@@ -169,6 +173,7 @@ fresh-machine-good vl = record { all = refl; good = λ i h. subst (λ r. Good vl
 
 -- ---- a good register after an operation
 
+-- a width is 1, 2, 4 or 8 bytes
 is-width : (w : Width) → IsWidth (bytesOf w)
 is-width B = (0, omega arith, refl)
 is-width H = (1, omega arith, refl)
@@ -197,6 +202,7 @@ set-each P (x ∷ l) zero (suc j) a z p q = q
 set-each P (x ∷ l) (suc i) zero a z p q = q
 set-each P (x ∷ l) (suc i) (suc j) a z p q = set-each P l i j a z p q
 
+-- a register that is being configured is neither open nor finished
 configuring-only : (k : State) → isConfiguring k ≡ true → (isOpen k ≡ false) × (isFinished k ≡ false)
 configuring-only Plain e = never e
 configuring-only Configuring e = (refl, refl)
@@ -216,9 +222,11 @@ patterned-good vl r p g c h = record {
   finished = λ e. never (sym (configuring-only (r .state) c .1) ∙ e);
 }
 
+-- a modifier in range is so with one dimension more
 wider : (n : ℕ) (m : Modifier) → RangedModifier n m → RangedModifier (n + 1) m
 wider n m h = record { below = h .below; owned = omega (arith, h .owned); displaced = h .displaced }
 
+-- a pattern in range, of fewer than seven dimensions, is so with one more
 dimensioned-ranged : (d : Dimension) (p : Pattern) → RangedPattern p → dimensionInRange d ≡ true → p .shape .dims < 7 → RangedPattern (dimensioned d p)
 dimensioned-ranged d p h e q =
     let r = dimension-range d e in
@@ -253,6 +261,7 @@ dimensioned-good vl d r g e w =
     let a = dimension-passed r w in
     patterned-good vl r (dimensioned d (r .pattern)) g (a .0) (dimensioned-ranged d (r .pattern) (g .pattern) e (a .1))
 
+-- a modifier whose target is below the dimension added last is in range
 owned-ranged : (m : given.Modifier) (s : Shape) → modifierInRange m ≡ true → m .target + 1 < s .dims → RangedModifier (s .dims) (owned m s)
 owned-ranged m s e q = record { below = omega arith; owned = omega arith; displaced = modifier-range m e .2 }
 
@@ -267,6 +276,7 @@ one-more n dims l m q h each k t = go (ltb k n) refl
         let z : k ≡ n = omega (arith, ltb-false k n e) in
         subst (λ i. RangedModifier dims (getD (set l n m) i noModifier)) (sym z) (subst (RangedModifier dims) (sym (getD-set-same l n m noModifier q)) h)
 
+-- a pattern in range, of fewer than eight modifiers, is so with one more whose target is below its owner
 modified-ranged : (m : given.Modifier) (p : Pattern) → RangedPattern p → modifierInRange m ≡ true → p .shape .mods < 8 → m .target + 1 < p .shape .dims
     → RangedPattern (modified m p)
 modified-ranged m p h e q t = record {
@@ -312,10 +322,12 @@ pub after-configuring : (b : Bool) → isConfiguring (cond b Finished Open) ≡ 
 after-configuring true = refl
 after-configuring false = refl
 
+-- an ended stream is open only if not all its elements have moved
 after-open : (b : Bool) → isOpen (cond b Finished Open) ≡ true → b ≡ false
 after-open true e = sym e
 after-open false e = refl
 
+-- an ended stream is finished only if all its elements have moved
 after-finished : (b : Bool) → isFinished (cond b Finished Open) ≡ true → b ≡ true
 after-finished true e = refl
 after-finished false e = e

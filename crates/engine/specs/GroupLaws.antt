@@ -55,10 +55,12 @@ abbrev pub leftInGroup : {A : Type 0} → List (List A) → ℕ → ℕ
 leftInGroup gs n = length (nextGroup (leftAfter n gs))
 
 module _ {A : Type 0} where
+  -- inside the first group: what is left of it, and the others
   after-head : (n : ℕ) (g : List A) (gs : List (List A)) → n < length g → leftAfter n (g ∷ gs) ≡ drop n g ∷ gs
   unfolding leftAfter
   after-head n g gs h = rw (lt-ltb n (length g) h)
 
+  -- behind the first group: what is left of the others
   after-tail : (n : ℕ) (g : List A) (gs : List (List A)) → length g ≤ n → leftAfter n (g ∷ gs) ≡ leftAfter (n - length g) gs
   unfolding leftAfter
   after-tail n g gs h = rw (le-ltb n (length g) h)
@@ -159,6 +161,7 @@ module _ {A K : Type 0} (a : A) (b : K) (f : K → List A) (key : A → K) (keye
           let s : suc n - length (f o) ≡ suc (n - length (f o)) = omega arith in
           rw (getD-past a (f o) (join (map f os)) n (omega arith), getD-past a (f o) (join (map f os)) (suc n) (omega arith), s) (r (omega arith))
 
+  -- where no two groups have the same key, a member of the first has another key than one of the others
   apart : (o : K) (os : List K) → Ordered b (λ x y. ¬ (x ≡ y)) (o ∷ os) → (x y : A) → key x ≡ o → Member b (key y) os → ¬ (key x ≡ key y)
   apart o os d x y e (k, q, m) t = d 0 (suc k) (omega arith) (omega arith) (sym e ∙ t ∙ sym m)
 

@@ -84,6 +84,7 @@ each-once vl (c ∷ cs) w i h nm g k =
     ∙ ap (λ l. movedIn vl (c .calculation) w i ++ l) (each-once vl cs v i h (nm .1) (effect-good vl (c .calculation) w g (nm .0) (k .0)) (k .1))
     ∙ once vl (c .calculation) w i (omega (arith, g .all)) (k .0) (g .good i h)
 
+-- what is a register before a calculation is one after it
 next-length : (vl : ℕ) (c : Placed) (w : World) (i : ℕ) → i < length (w .machine .registers) → i < length (effect vl (c .calculation) w .machine .registers)
 next-length vl c w i h = subst (λ n. i < n) (sym (effect-length vl (c .calculation) w)) h
 

@@ -74,11 +74,12 @@ module _ (p : Pattern) (kind : Kind) (width n : ℕ) (r : Register) (t : Streami
     state = ap (λ q. stateAfter (q .shape) (r .moved + k)) (t .pattern) ∙ ap (λ m. stateAfter (p .shape) (m + k)) (t .moved);
   }
 
+  -- whatever its register holds, it is the same stream at the same element
   held : (xs : List ℕ) → Streaming p kind width n (holding (r .width) xs r)
   unfolding holding
   held xs = record { pattern = t .pattern; is = t .is; wide = t .wide; moved = t .moved; state = t .state }
 
--- after a read, and after a write
+-- after a read the stream has moved on by its next chunk
 read-on : (p : Pattern) (kind : Kind) (width n vl : ℕ) (memory : List ℕ) (r : Register) → Streaming p kind width n r → n < length (elements (p .shape))
     → Streaming p kind width (n + length (chunk (p .shape) (vl / width) n)) (readFrom vl memory r)
 read-on p kind width n vl memory r t h =
@@ -86,6 +87,7 @@ read-on p kind width n vl memory r t h =
     rw (read-open vl memory r o, ← next-is p kind width n r t vl)
     (moved-on p kind width n _ (held p kind width n r t (given vl memory r)) (length (nextChunk vl r)))
 
+-- after a write the stream has moved on by the lanes written
 wrote-on : (p : Pattern) (kind : Kind) (width n by : ℕ) (xs : List ℕ) (r : Register) → Streaming p kind width n r → n < length (elements (p .shape))
     → Streaming p kind width (n + length xs) (writtenTo by xs r)
 wrote-on p kind width n by xs r t h =
@@ -98,6 +100,7 @@ lies-inside : (len width : ℕ) (a : ℤ) → Lies len width a → inside len wi
 lies-inside len width (pos k) l = le-leb (k + width) len (leb→le (k + width) len (l .most .le))
 lies-inside len width (negsuc k) l = absurd (l .least .le)
 
+-- elements inside, by the engine's test
 all-inside : (len width : ℕ) (p : Pattern) (vs : List (List ℕ)) → AllLie len width p vs → allInside p width len vs ≡ true
 unfolding allInside
 all-inside len width p [] l = refl
@@ -108,6 +111,7 @@ neither : (a o b : Bool) → a ≡ true → b ≡ false → (not a || o && b) �
 neither a true b e f = rw (e, f)
 neither a false b e f = rw e
 
+-- a load is no open store
 no-store : (r : Register) → r .kind ≡ Load → openStore r ≡ false
 no-store r e = rw e (by (isOpen (r .state)))
   where
@@ -115,6 +119,7 @@ no-store r e = rw e (by (isOpen (r .state)))
     by true = refl
     by false = refl
 
+-- a store is no open load
 no-load : (r : Register) → r .kind ≡ Store → openLoad r ≡ false
 no-load r e = rw e (by (isOpen (r .state)))
   where
@@ -125,12 +130,15 @@ no-load r e = rw e (by (isOpen (r .state)))
 -- ---- one calculation
 
 module _ (vl : ℕ) (b : Three) (s : Shape) (one : OneShape b s) (c : Calculation) (n : ℕ) (w : World) (t : InStep vl b c n w) (h : n < length (elements s)) where
+  -- the first source
   abbrev ra : Register
   ra = reg (w .machine) (c .first)
 
+  -- the second source
   abbrev rb : Register
   rb = reg (w .machine) (c .second)
 
+  -- the destination
   abbrev rd : Register
   rd = reg (w .machine) (c .destination)
 
@@ -138,37 +146,47 @@ module _ (vl : ℕ) (b : Three) (s : Shape) (one : OneShape b s) (c : Calculatio
   abbrev pub now : List (List ℕ)
   now = chunk s (vl / b .width) n
 
+  -- the first source is open
   open-a : ra .state ≡ Open
   open-a = streaming-open _ _ _ n ra (t .first) (rw (one .first) h)
 
+  -- the second source is open
   open-b : rb .state ≡ Open
   open-b = streaming-open _ _ _ n rb (t .second) (rw (one .second) h)
 
+  -- the destination is open
   open-d : rd .state ≡ Open
   open-d = streaming-open _ _ _ n rd (t .destination) (rw (one .destination) h)
 
+  -- the next chunk of the first source is that chunk
   next-a : nextChunk vl ra ≡ now
   next-a = next-is _ _ _ n ra (t .first) vl ∙ ap (λ u. chunk u (vl / b .width) n) (one .first)
 
+  -- the next chunk of the second source is that chunk
   next-b : nextChunk vl rb ≡ now
   next-b = next-is _ _ _ n rb (t .second) vl ∙ ap (λ u. chunk u (vl / b .width) n) (one .second)
 
+  -- the next chunk of the destination is that chunk
   next-d : nextChunk vl rd ≡ now
   next-d = next-is _ _ _ n rd (t .destination) vl ∙ ap (λ u. chunk u (vl / b .width) n) (one .destination)
 
+  -- the lanes of the first source are the values at the chunk's elements
   given-a : given vl (w .memory) ra ≡ map (fetch (b .first) (b .width) (w .memory)) now
   given-a =
       given-is _ _ _ n ra (t .first) vl (w .memory) (rw (one .first) h)
       ∙ ap (λ u. map (fetch (b .first) (b .width) (w .memory)) (chunk u (vl / b .width) n)) (one .first)
 
+  -- the lanes of the second source are the values at the chunk's elements
   given-b : given vl (w .memory) rb ≡ map (fetch (b .second) (b .width) (w .memory)) now
   given-b =
       given-is _ _ _ n rb (t .second) vl (w .memory) (rw (one .second) h)
       ∙ ap (λ u. map (fetch (b .second) (b .width) (w .memory)) (chunk u (vl / b .width) n)) (one .second)
 
+  -- the first source gives as many lanes as the chunk has elements
   lanes-a : length (given vl (w .memory) ra) ≡ length now
   lanes-a = ap length given-a ∙ length-map now (fetch (b .first) (b .width) (w .memory))
 
+  -- the second source gives as many lanes as the chunk has elements
   lanes-b : length (given vl (w .memory) rb) ≡ length now
   lanes-b = ap length given-b ∙ length-map now (fetch (b .second) (b .width) (w .memory))
 
@@ -205,6 +223,7 @@ module _ (vl : ℕ) (b : Three) (s : Shape) (one : OneShape b s) (c : Calculatio
         destination-inside = not-outside (b .destination) rd _ (t .destination .pattern) (t .destination .wide) m (l .destination);
       })
 
+  -- the calculation's lanes are the operation, lane by lane, of the values at both sources' elements
   results-are : results vl c w
       ≡ lanewise (lane (b .action) (8 * b .width)) (map (fetch (b .first) (b .width) (w .memory)) now) (map (fetch (b .second) (b .width) (w .memory)) now)
   unfolding results
@@ -278,6 +297,7 @@ pub record StepsDone (vl : ℕ) (b : Three) (s : Shape) (n : ℕ) (memory : List
 
 module _ (vl : ℕ) (b : Three) (s : Shape) (one : OneShape b s) (cov : Covered (s .dims) (s .coupling)) (lanes : 0 < vl / b .width) (c : Placed) (loop : ℕ)
     (is : (loop ≡ c .calculation .first) ⊎ (loop ≡ c .calculation .second)) where
+  -- the three streams are in step at element n
   abbrev Steps : ℕ → World → Type 0
   Steps n w = InStep vl b (c .calculation) n w
 
@@ -289,6 +309,7 @@ module _ (vl : ℕ) (b : Three) (s : Shape) (one : OneShape b s) (cov : Covered 
       go (inl e) = rw e (ap isOpen (streaming-open _ _ _ n _ (t .first) (rw (one .first) h)))
       go (inr e) = rw e (ap isOpen (streaming-open _ _ _ n _ (t .second) (rw (one .second) h)))
 
+  -- and not open once none is left
   loop-shut : (n : ℕ) (w : World) → Steps n w → length (elements s) ≤ n → isOpen (reg (w .machine) loop .state) ≡ false
   loop-shut n w t h = go is
     where

@@ -28,6 +28,7 @@ map-same : {A B : Type 0} (f g : A → B) (l : List A) (z : A) → ((k : ℕ) �
 map-same f g [] z h = refl
 map-same f g (x ∷ l) z h = ap₂ _∷_ (h 0 (omega arith)) (map-same f g l z (λ k q. h (suc k) (omega arith)))
 
+-- the images of a list without its first k are the images of the rest
 drop-map : {A B : Type 0} (f : A → B) (k : ℕ) (l : List A) → drop k (map f l) ≡ map f (drop k l)
 drop-map f zero l = refl
 drop-map f (suc k) [] = refl
@@ -38,6 +39,7 @@ pub record Roomy (s : Shape) : Type 0 where
   pub some : 1 ≤ s .dims
   pub most : s .dims ≤ 7
 
+-- a number that is not 0 is one more than the one before it
 one-less : (n : ℕ) → 1 ≤ n → n ≡ suc (n - 1)
 one-less n h = omega arith
 
@@ -64,6 +66,7 @@ walk-start s r =
     ∙ sym (loops-padded (sizeAt s) (replicate (7 - s .dims) 0) (size-pad s (7 - s .dims)) (s .dims) [])
     ∙ seven s r
 
+-- one element further on, the first of what is left is gone
 tail-of : {A : Type 0} (k : ℕ) (l : List A) (x : A) (t : List A) → drop k l ≡ x ∷ t → drop (suc k) l ≡ t
 tail-of zero [] x t e = absurd (let z : _≡_ {A = ℕ} 0 1 = cc in omega arith)
 tail-of (suc k) [] x t e = absurd (let z : _≡_ {A = ℕ} 0 1 = cc in omega arith)
@@ -92,6 +95,7 @@ drop-index v n d e h p = ap (drop d) (index-pad v n e h) ∙ drop-append-le d v 
 pub size-index : (s : Shape) (v : List ℕ) (n d : ℕ) → length v ≡ n → n ≤ 7 → d < n → sizeAt s d (drop (suc d) (indexOf v)) ≡ sizeAt s d (drop (suc d) v)
 size-index s v n d e h p = ap (sizeAt s d) (drop-index v n (suc d) e h p) ∙ size-pad s (7 - n) d (drop (suc d) v)
 
+-- the address over the first d dimensions is the same at an element's seven indices
 address-up : (p : Pattern) (w : ℕ) (v : List ℕ) (n d : ℕ) → length v ≡ n → n ≤ 7 → d ≤ n → addressUpTo p w (indexOf v) d ≡ addressUpTo p w v d
 unfolding addressUpTo
 address-up p w v n zero e h q = refl
@@ -120,10 +124,11 @@ index-under s r k q j = omega (arith, index-getD (getD (elements s) k []) (s .di
 pub roomy : (s : Shape) → Accepted s → Roomy s
 roomy s a = record { some = a .some; most = a .ranged .dims }
 
--- what is an element's index is under the highs, and so below 4,096
+-- what is an element's index is under the highs
 pub element-under : (s : Shape) → Accepted s → (v : List ℕ) → Element s v → Under s 0 v
 element-under s a v e = subst (Under s 0) (sym (e .here)) (index-under s (roomy s a) (e .position) (e .below))
 
+-- what is an element's index is below 4,096
 pub element-small : (s : Shape) → Accepted s → (v : List ℕ) → Element s v → (k : ℕ) → getD v k 0 ≤ 4095
 element-small s a v e = under-small s (a .bounded) 0 (omega arith) v (element-under s a v e)
 

@@ -27,6 +27,7 @@ use Rattle.engine.specs.Good.{IsWidth}
 pub width-range : (w : ℕ) → IsWidth w → (1 ≤ w) × (w ≤ 8)
 width-range w h = omega (arith, pow-pos (h .0), pow-mono {i = h .0} {j = 3} (h .1), h .2)
 
+-- whichever of two lanes is taken, it is below what both are below
 one-of : (t : Bool) (a b m : ℕ) → a < m → b < m → cond t b a < m
 one-of true a b m p q = q
 one-of false a b m p q = p
@@ -46,7 +47,7 @@ lane-small Larger n a b p q = one-of (ltb (raised n a) (raised n b)) a b (2 ^ n)
 pub copy-exact : (n a b : ℕ) → lane Copy n a b ≡ a
 copy-exact n a b = refl
 
--- "Add .. wrap[s] at the element width": the sum itself, or the sum less 2^n
+-- "Add and subtract wrap at the element width": the sum itself, or the sum less 2^n
 pub add-exact : (n a b : ℕ) → a < 2 ^ n → b < 2 ^ n → (lane Add n a b ≡ a + b) ⊎ (lane Add n a b + 2 ^ n ≡ a + b)
 add-exact n a b p q = go (decLt (a + b) (2 ^ n))
   where
@@ -101,12 +102,14 @@ xor-bit n a b i =
     let d : differ (a / 2 ^ i % 2) (b / 2 ^ i % 2) < 2 = differ-small (a / 2 ^ i % 2) (b / 2 ^ i % 2) (omega arith) (omega arith) in
     ap (λ x. x % 2) (xor-shr a b i) ∙ omega (arith, xor-step (a / 2 ^ i) (b / 2 ^ i))
 
--- "Bytes: 200 + 100 = 44; 0 - 1 = 255; smaller of 80h and 01h is 80h"
+-- "Bytes: 200 + 100 = 44"
 sum-200-100 : lane Add 8 200 100 ≡ 44
 sum-200-100 = refl
 
+-- "0 - 1 = 255"
 0-less-1 : lane Subtract 8 0 1 ≡ 255
 0-less-1 = refl
 
+-- "smaller of 80h and 01h is 80h"
 smaller-80-01 : lane Smaller 8 128 1 ≡ 128
 smaller-80-01 = refl

@@ -77,6 +77,7 @@ stored-front p width memory [] (x ∷ xs) = refl
 stored-front p width memory (v ∷ vs) [] = refl
 stored-front p width memory (v ∷ vs) (x ∷ xs) = stored-front p width _ vs xs
 
+-- the smaller of n and m is below n exactly if m is
 less-or-not : (n m : ℕ) → ltb (min n m) n ≡ ltb m n
 less-or-not n m = go (decLt m n)
   where

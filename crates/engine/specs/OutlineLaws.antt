@@ -38,11 +38,13 @@ abbrev pub extent : ℕ → ℕ → ℕ → Bytes → Bytes → Extent
 extent dims mods n first last = record { dims = dims; mods = mods; elements = n; first = first; last = last }
 
 module _ (p : Pattern) (width : ℕ) where
+  -- past the last element the address is 0
   address-none : (k : ℕ) → length (elements (p .shape)) ≤ k → addressAt p width k ≡ noBytes
   address-none k h =
       List·getD-eq-default (addressesOf p width (elements (p .shape))) noBytes
       (omega (arith, length-map {B = Bytes} (elements (p .shape)) (λ v. record { 0 = address p width v })))
 
+  -- at a position the address of the element there
   address-some : (k : ℕ) → k < length (elements (p .shape)) → addressAt p width k ≡ record { 0 = address p width (getD (elements (p .shape)) k []) }
   address-some k h = getD-map (λ v. record { 0 = address p width v }) (elements (p .shape)) k [] noBytes h
 

@@ -23,15 +23,18 @@ use Rattle.engine.specs.ChunkLaws.{passes-join, groups-join}
 
 -- the next group of loops coupled to dimension c (counted from 1) of D
 module _ (size : ℕ → List ℕ → ℕ) (D c : ℕ) (h : c ≤ D) where
+  -- no two index vectors of the dimensions above c are the same
   distinct : Ordered [] (λ u v. ¬ (u ≡ v)) (loops size c (D - c) [])
   distinct j k p q e = before-not-self _ (rw e at (loops-order size c (D - c) [] j k p q))
 
+  -- more than one left: the next element differs in no index above dimension c
   alike : (n : ℕ) → 1 < leftInGroup (passes size c D) n → drop c (getD (loops size 0 D []) n []) ≡ drop c (getD (loops size 0 D []) (suc n) [])
   unfolding passes
   alike n p =
       subst (λ l. drop c (getD l n []) ≡ drop c (getD l (suc n) [])) (passes-join size c D h)
       (key-same [] [] (loops size 0 c) (drop c) (loops-drop size 0 c) (loops size c (D - c) []) n p)
 
+  -- one left: the next element differs in an index above dimension c
   unlike : (n : ℕ) → suc n < length (loops size 0 D []) → leftInGroup (passes size c D) n ≡ 1
       → ¬ (drop c (getD (loops size 0 D []) n []) ≡ drop c (getD (loops size 0 D []) (suc n) []))
   unfolding passes

@@ -41,9 +41,11 @@ pub record PassRan (vl : ℕ) (cs : List Placed) (g r : Progress) : Type 0 where
   pub done : r .verdict ≡ Done → take rest cs ≡ cs
   pub refused : (x : Refusal) (at : ℕ) → r .verdict ≡ Refused x at → Stopped vl (drop rest cs) (r .world) x at
 
+-- two verdicts that are the same have the same refusal
 same-refusal : (x y : Refusal) (p q : ℕ) → Refused x p ≡ Refused y q → x ≡ y
 same-refusal x y p q e = cc
 
+-- two verdicts that are the same have the same place
 same-place : (x y : Refusal) (p q : ℕ) → Refused x p ≡ Refused y q → p ≡ q
 same-place x y p q e = cc
 
@@ -125,6 +127,7 @@ pub record Ran (vl loop : ℕ) (body : List Placed) (g r : Progress) : Type 0 wh
   pub broken : (x : Refusal) (at : ℕ) → r .verdict ≡ Refused x at → isOpen (reg (afterAll vl (g .world) (times rounds body) .machine) loop .state) ≡ true
   pub refused : (x : Refusal) (at : ℕ) → r .verdict ≡ Refused x at → Stopped vl (drop rest body) (r .world) x at
 
+-- a whole pass, then passes that ran: one pass more ran
 one-more : (vl loop : ℕ) (body : List Placed) (g h r : Progress) → isOpen (reg (g .world .machine) loop .state) ≡ true → WholePass vl body g h
     → Ran vl loop body (counted h) r → Ran vl loop body g r
 unfolding times afterAll
@@ -154,6 +157,7 @@ one-more vl loop body g h r o p q =
     began zero b = o
     began (suc k) b = later k (q .began k (omega arith))
 
+-- from g to g itself no pass ran
 none-ran : (vl loop : ℕ) (body : List Placed) (g : Progress) → g .verdict ≡ Done → Ran vl loop body g g
 unfolding times Completed afterAll
 none-ran vl loop body g v = record {
@@ -169,6 +173,7 @@ none-ran vl loop body g v = record {
   refused = λ x at e. not-both x at (g .verdict) v e;
 }
 
+-- where the first pass is refused, the run did what that pass did
 broken-ran : (vl loop : ℕ) (body : List Placed) (g h : Progress) (x : Refusal) (at : ℕ) → isOpen (reg (g .world .machine) loop .state) ≡ true
     → h .verdict ≡ Refused x at → PassRan vl body g h → Ran vl loop body g h
 unfolding times afterAll

@@ -53,13 +53,15 @@ module _ {A : Type 0} (p : A → Bool) (z : A) where
           absurd (omega arith)
       go false q = q
 
-  -- the same of the first n
+  -- one of the first n of which the test holds
   pub first-at : (l : List A) (n k : ℕ) → n ≤ length l → k < n → p (getD l k z) ≡ true → some p (take n l) ≡ true
   first-at l n k m h e = some-at (take n l) k (omega (arith, length-take-le n l m)) (ap p (getD-take n l k z h) ∙ e)
 
+  -- of the first n the test holds of none
   pub first-none : (l : List A) (n : ℕ) → n ≤ length l → ((k : ℕ) → k < n → p (getD l k z) ≡ false) → some p (take n l) ≡ false
   first-none l n m h = some-none (take n l) (λ k q. let r : k < n = omega (arith, length-take-le n l m) in ap p (getD-take n l k z r) ∙ h k r)
 
+  -- each of the first n fails it
   pub first-out : (l : List A) (n : ℕ) → n ≤ length l → some p (take n l) ≡ false → (k : ℕ) → k < n → p (getD l k z) ≡ false
   first-out l n m e k h = sym (ap p (getD-take n l k z h)) ∙ some-out (take n l) e k (omega (arith, length-take-le n l m))
 
@@ -113,6 +115,7 @@ ranged-fits s r h =
 pub shape-passes : (s : Shape) → Ranged s → 1 ≤ s .dims → lowOrHigh s ≡ false → product (highsOf s) ≤ 1048576 → checkShape s ≡ Nothing
 shape-passes s r h l p = ranged-fits s r h ∙ rw (l, le-ltb 1048576 (product (highsOf s)) p)
 
+-- where neither of two checks refuses, neither applies
 both : (a b : Bool) (x y : Refusal) → cond a (Because x) (cond b (Because y) Nothing) ≡ Nothing → (a ≡ false) × (b ≡ false)
 both true b x y e = absurd (let n : _≡_ {A = ℕ} 0 1 = cc in omega arith)
 both false true x y e = absurd (let n : _≡_ {A = ℕ} 0 1 = cc in omega arith)

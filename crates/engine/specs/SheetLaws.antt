@@ -61,6 +61,7 @@ unfolding operationsFrom
 operations-turn n s at m h =
     ap (λ b. cond b (onDecoded s at m (operationAt s at) (operationsFrom n s)) (record { machine = m; ending = over })) (lt-ltb at (length s) h)
 
+-- what follows an operation matters only on the machine that it leaves
 operation-same : (w : Why) (place : ℕ) (m n : Machine) (f g : Machine → Prepared) → f n ≡ g n → onOperation w place m f n ≡ onOperation w place m g n
 operation-same Nothing place m n f g e = e
 operation-same (Because x) place m n f g e = refl
@@ -166,6 +167,7 @@ pub record Runs (loop : ℕ) (cs : List Placed) (m : Machine) : Type 0 where
   pub source : names loop cs ≡ true
   pub is-loop : isLoopRegister loop cs m ≡ true
 
+-- what is known of how the operations end: a run that follows is such a run
 abbrev pub Follows : Machine → Ending → Type 0
 Follows m over = Unit {0}
 Follows m (runs loop cs) = Runs loop cs m
@@ -176,6 +178,7 @@ pub record Left (vl : ℕ) (p : Prepared) : Type 0 where
   pub good : AllGood vl (p .machine)
   pub follows : Follows (p .machine) (p .ending)
 
+-- so it is where a run in range was read, with a body of its count and in range
 ending-good : (s : List ℕ) (at loop : ℕ) (m : Machine) (count : ℕ) (r : Calculations) → operationInRange (op.Run loop count) ≡ true
     → ((cs : List Placed) (to : ℕ) → r ≡ whole cs to → (length cs ≡ count) × AllInRange cs) → Follows m (endingOf s at loop m r)
 unfolding operationInRange
@@ -198,10 +201,12 @@ ending-good s at loop m count (whole cs to) e h = go (ltb to (length s)) (isLoop
           is-loop = q;
         }
 
+-- an operation, refused or not, leaves that if what follows it does
 operation-good : (vl : ℕ) (w : Why) (place : ℕ) (m n : Machine) (f : Machine → Prepared) → AllGood vl m → Left vl (f n) → Left vl (onOperation w place m f n)
 operation-good vl Nothing place m n f g h = h
 operation-good vl (Because x) place m n f g h = record { good = g; follows = tt }
 
+-- whatever was read at a place leaves that, if what follows it does
 decoded-good : (vl : ℕ) (s : List ℕ) (at : ℕ) (m : Machine) (d : Decoded) (f : ℕ → Machine → Prepared) → areBytes s → AllGood vl m
     → ((o : Operation) (c : Cursor) → d ≡ decoded.Operation o c → operationInRange o ≡ true) → ((to : ℕ) (n : Machine) → AllGood vl n → Left vl (f to n))
     → Left vl (onDecoded s at m d f)

@@ -23,13 +23,16 @@ use Rattle.engine.specs.Lanes.{raised, lane}
 unfoldable pub twos : ℕ → ℕ → ℤ
 twos n a = cond (ltb a (2 ^ (n - 1))) (pos a) (pos a -ℤ pos (2 ^ n))
 
+-- a - m, where a is below m, is -(m - a)
 below : (a m : ℕ) → a < m → pos a -ℤ pos m ≡ negsuc (m - suc a)
 below a zero h = absurd (omega arith)
 below a (suc m) h = rw (lt-ltb a (suc m) h)
 
+-- 2^n is twice 2^(n - 1)
 doubled : (n : ℕ) → 1 ≤ n → 2 ^ n ≡ 2 * 2 ^ (n - 1)
 doubled n h = let e : n ≡ suc (n - 1) = omega arith in ap (λ k. 2 ^ k) e ∙ pow-succ' 2 (n - 1)
 
+-- if a is below b exactly where c is below d, both tests give the same
 same-test : (a b c d : ℕ) → (a < b → c < d) → (b ≤ a → d ≤ c) → ltb a b ≡ ltb c d
 same-test a b c d f g = go (decLt a b)
   where
@@ -48,9 +51,11 @@ module _ (n : ℕ) (some : 1 ≤ n) where
   unfolding twos
   twos-high a h p = rw (le-ltb a (2 ^ (n - 1)) h) (below a (2 ^ n) p)
 
+  -- the lower half is raised to the upper
   raised-low : (a : ℕ) → a < 2 ^ (n - 1) → raised n a ≡ a + 2 ^ (n - 1)
   raised-low a h = mod-eq-of-lt (omega (arith, doubled n some))
 
+  -- the upper half goes round to the lower
   raised-high : (a : ℕ) → 2 ^ (n - 1) ≤ a → a < 2 ^ n → raised n a ≡ a - 2 ^ (n - 1)
   raised-high a h p =
       let e : a + 2 ^ (n - 1) ≡ (a - 2 ^ (n - 1)) + 2 ^ n = omega (arith, doubled n some) in
@@ -86,15 +91,18 @@ pub record Greatest (n a b r : ℕ) : Type 0 where
   pub first : twos n a ≤ℤ twos n r
   pub second : twos n b ≤ℤ twos n r
 
+-- of two integers the one that is less is at most the other, by the tests
 lt-le : (x y : ℤ) → T (ltZ x y) → T (leZ x y)
 lt-le (pos x) (pos y) t = le→leb x y (let h : x < y = ltb→lt x y t in omega arith)
 lt-le (pos x) (negsuc y) t = t
 lt-le (negsuc x) (pos y) t = t
 lt-le (negsuc x) (negsuc y) t = le→leb y x (let h : y < x = ltb→lt y x t in omega arith)
 
+-- of two integers the one that is less is at most the other
 strictly : (x y : ℤ) → ltZ x y ≡ true → x ≤ℤ y
 strictly x y e = record { le = lt-le x y (subst T (sym e) tt) }
 
+-- of two integers the one that is not less is at least the other
 otherwise : (x y : ℤ) → ltZ x y ≡ false → y ≤ℤ x
 otherwise x y e = ltZ-no (subst (λ t. T (not t)) (sym e) tt)
 

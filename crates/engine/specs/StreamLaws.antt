@@ -51,6 +51,7 @@ pub record Ways (vl : ℕ) (c : Calculation) (w : World) (i : ℕ) (P : Register
   pub stored : isOpen (reg (w .machine) i .state) ≡ true → length (results vl c w) ≤ length (nextChunk vl (reg (w .machine) i))
       → P (movedBy (length (results vl c w)) (reg (w .machine) i)) (take (length (results vl c w)) (nextChunk vl (reg (w .machine) i)))
 
+-- an open register that is no open store is an open load
 open-load : (r : Register) → openStore r ≡ false → isOpen (r .state) ≡ true → openLoad r ≡ true
 open-load r e o = and-both (isOpen (r .state)) (isLoad (r .kind)) o (go (isLoad (r .kind)) (and-false (isOpen (r .state)) (not (isLoad (r .kind))) e o))
   where
@@ -58,15 +59,19 @@ open-load r e o = and-both (isOpen (r .state)) (isLoad (r .kind)) o (go (isLoad 
     go true f = refl
     go false f = never (sym f)
 
+-- an open load is no open store
 load-no-store : (r : Register) → openLoad r ≡ true → openStore r ≡ false
 load-no-store r e = and-right (isOpen (r .state)) (not (isLoad (r .kind))) (ap not (both (isOpen (r .state)) (isLoad (r .kind)) e .1))
 
+-- where the first test holds, its way is taken
 first-way : {A : Type 0} (x : Bool) (s t : A) → x ≡ true → cond x s t ≡ s
 first-way x s t e = rw e
 
+-- where only the second test holds, its way is taken
 second-way : {A : Type 0} (x y : Bool) (s t z : A) → x ≡ false → y ≡ true → cond x s (cond y t z) ≡ t
 second-way x y s t z e f = rw (e, f)
 
+-- where neither test holds, neither way is taken
 no-way : {A : Type 0} (x y : Bool) (s t z : A) → x ≡ false → y ≡ false → cond x s (cond y t z) ≡ z
 no-way x y s t z e f = rw (e, f)
 
@@ -185,6 +190,7 @@ module _ (vl : ℕ) (c : Calculation) (w : World) (i : ℕ) (h : i < length (w .
         stored = λ o k. ap (λ n. reg (w .machine) i .moved + n) (sym (length-take-le (length (results vl c w)) (nextChunk vl (reg (w .machine) i)) k));
       })
 
+  -- a register that is neither open nor finished has no stream
   no-stream : isOpen (reg (w .machine) i .state) ≡ false → isFinished (reg (w .machine) i .state) ≡ false → IsStream (reg (w .machine) i) → false ≡ true
   no-stream o f s = sym (rw (o, f)) ∙ s
 
