@@ -86,6 +86,7 @@ pub data Fault (s : List ℕ) (x : Refusal) (at place : ℕ) (r : Range) (Later 
   beyond : (v to : ℕ) → x ≡ OutOfRange → at ≡ place → NumberAt s place v to → ¬ Holds r v → Fault s x at place r Later
   later : (v to : ℕ) → NumberAt s place v to → Holds r v → Later v to → Fault s x at place r Later
 
+-- of the numbers of these fields from a place on, the first at fault is refused with x, its place being `at`
 unfoldable pub AtFault : List ℕ → Refusal → ℕ → List Field → ℕ → Nest → Type 0
 AtFault s x at [] place m = ⊥
 AtFault s x at (f ∷ fs) place m = Fault s x at place (rangeOf (m .loops) f) (λ v to. AtFault s x at fs to (put f v m))

@@ -60,6 +60,7 @@ threeBytes =
     ∷ 0xac ∷ 0x02 ∷ 0x04 ∷ 0x00 ∷ 0xc8 ∷ 0x01
     ∷ []
 
+-- the numbers of that nest
 unfoldable pub three : Nest
 three = record {
   width = H;
@@ -88,6 +89,7 @@ three = record {
 unfoldable pub sheetFor : List ℕ → ℕ → List ℕ
 sheetFor s n = roomAfter (nestAt s) (replicate n 0)
 
+-- what translating a nest's bytes answers, for a room of n bytes
 unfoldable pub answerFor : List ℕ → ℕ → Answered
 answerFor s n = asTranslated (translated (nestAt s) n)
 
@@ -114,15 +116,17 @@ sheets = (refl, refl, refl, refl, refl)
 unfoldable pub sized : ℕ → ℕ → Behaviour → ℕ → Modifier
 sized o t b n = record { owner = o; target = t; parameter = parameter.Size; behaviour = b; displacement = n }
 
--- a dimension and a modifier as operations
+-- a dimension of offset 0 as an operation
 unfoldable pub dimension : ℕ → ℕ → ℤ → Operation
 dimension register size stride =
     op.Dimension (record { register = register; offset = record { 0 = pos 0 }; size = size; stride = record { 0 = stride } })
 
+-- a size modifier as an operation
 unfoldable pub modifier : ℕ → ℕ → Behaviour → ℕ → Operation
 modifier register t b n =
     op.Modifier (record { register = register; target = t; parameter = parameter.Size; behaviour = b; displacement = n })
 
+-- the nest of three loops: read, written, its visits, places, highs, modifiers, operations
 pub threeLoops :
     (nestAt threeBytes ≡ nest three)
     × (nestBytes three ≡ threeBytes)
@@ -187,14 +191,17 @@ unfoldable pub chunkLengths : List (List (List ℕ)) → ℕ → ℕ → ℕ →
 chunkLengths gs lanes n zero = []
 chunkLengths gs lanes n (suc most) = length (chunkOf gs lanes n) ∷ chunkLengths gs lanes (n + length (chunkOf gs lanes n)) most
 
+-- the lengths of a nest's chunks; none if it is refused
 unfoldable pub chunksFor : Nested → ℕ → ℕ → List ℕ
 chunksFor (refused x at) lanes most = []
 chunksFor (nest m) lanes most = chunkLengths (visitGroups m) lanes 0 most
 
+-- a nest's visits; none if it is refused
 unfoldable pub visitsFor : Nested → List (List ℕ)
 visitsFor (refused x at) = []
 visitsFor (nest m) = visits m
 
+-- the visits of the triangle; its chunks, uncoupled and coupled to each loop; those of the nest of three loops
 pub chunks :
     (visitsFor (nestAt (triangleBytes 0))
     ≡ (0 ∷ 0 ∷ [])

@@ -75,6 +75,7 @@ fieldsOf D = headFields ++ restFields D
 
 -- ---- ranges
 
+-- the range of a number: between two numbers, or "stride range" for a signed one
 pub data Range : Type 0 where
   between : ℕ → ℕ → Range
   reach : Range
@@ -103,6 +104,7 @@ Holds reach n = natAbs (signedOf n) ≤ 1048576
 
 -- ---- a nest's numbers
 
+-- the access of a role
 abbrev pub accessOf : Role → Nest → Access
 accessOf first m = m .first
 accessOf second m = m .second
@@ -112,13 +114,15 @@ accessOf destination m = m .destination
 abbrev pub termPlace : ℕ → ℕ → ℕ
 termPlace t o = 7 * t + o
 
+-- the term of loop t for loop o
 abbrev pub termOf : Nest → ℕ → ℕ → ℤ
 termOf m t o = getD (m .terms) (termPlace t o) (pos 0)
 
--- no number yet
+-- an access with no number yet
 abbrev pub noAccess : Access
 noAccess = record { base = noBytes; strides = replicate 7 noElements }
 
+-- a nest with no number yet
 abbrev pub noNest : Nest
 noNest = record {
   width = B;
@@ -137,14 +141,17 @@ abbrev pub nestOf : Width → ℕ → ℕ → Action → List ℕ → List ℤ �
 nestOf w D c o counts terms f s d =
     record { width = w; loops = D; coupled = c; action = o; counts = counts; terms = terms; first = f; second = s; destination = d }
 
+-- the nest with access a put in
 abbrev pub withAccess : Role → Access → Nest → Nest
 withAccess first a m = nestOf (m .width) (m .loops) (m .coupled) (m .action) (m .counts) (m .terms) a (m .second) (m .destination)
 withAccess second a m = nestOf (m .width) (m .loops) (m .coupled) (m .action) (m .counts) (m .terms) (m .first) a (m .destination)
 withAccess destination a m = nestOf (m .width) (m .loops) (m .coupled) (m .action) (m .counts) (m .terms) (m .first) (m .second) a
 
+-- the access with base n put in
 abbrev pub withBase : ℕ → Access → Access
 withBase n a = record { base = record { 0 = pos n }; strides = a .strides }
 
+-- the access with stride z for loop d put in
 abbrev pub withStride : ℕ → ℤ → Access → Access
 withStride d z a = record { base = a .base; strides = set (a .strides) d (record { 0 = z }) }
 

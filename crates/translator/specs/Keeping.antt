@@ -41,5 +41,6 @@ shapeWith m k = record {
   coupling = couplingOf (m .coupled);
 }
 
+-- the shape of a nest with its modifiers as they are kept
 abbrev pub keptShape : Nest → Shape
 keptShape m = shapeWith m (keepAll (modifiersOf m) noneKept)

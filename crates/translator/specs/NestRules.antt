@@ -41,11 +41,12 @@ nonzeroOf m = nonzeroFrom m 0 (m .loops)
 
 -- ---- 8 and 9
 
--- what a term adds, and what it subtracts
+-- what a term adds: nothing if it is negative
 abbrev pub adding : ℤ → ℕ
 adding (pos n) = n
 adding (negsuc n) = 0
 
+-- what a term subtracts: nothing if it is not negative
 abbrev pub subtracting : ℤ → ℕ
 subtracting (pos n) = 0
 subtracting (negsuc n) = suc n
@@ -69,16 +70,19 @@ unfoldable pub highsFrom : Nest → ℕ → ℕ → List ℕ
 highsFrom m t zero = []
 highsFrom m t (suc n) = highWith m t (map lastIndex (highsFrom m (suc t) n)) ∷ highsFrom m (suc t) n
 
+-- the highs of all loops of a nest, innermost first
 abbrev pub highsOf : Nest → List ℕ
 highsOf m = highsFrom m 0 (m .loops)
 
--- of one loop
+-- the last indices of the loops outside t, by their highs
 abbrev pub lastsOutside : Nest → ℕ → List ℕ
 lastsOutside m t = map lastIndex (drop (suc t) (highsOf m))
 
+-- "high = size plus, for each adding size modifier on it, displacement x ..": of loop t
 abbrev pub highOf : Nest → ℕ → ℕ
 highOf m t = highWith m t (lastsOutside m t)
 
+-- "low = size less the same over subtracting ones": what is subtracted, of loop t
 abbrev pub lessOf : Nest → ℕ → ℕ
 lessOf m t = lessWith m t (lastsOutside m t)
 
@@ -90,6 +94,7 @@ lowOrHighFrom m t (suc n) =
     || ltb 4096 (highWith m t (map lastIndex (highsFrom m (suc t) n)))
     || lowOrHighFrom m (suc t) n
 
+-- "Low below 0 or high above 4,096 is refused": of all loops of a nest
 abbrev pub lowOrHigh : Nest → Bool
 lowOrHigh m = lowOrHighFrom m 0 (m .loops)
 

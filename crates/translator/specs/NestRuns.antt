@@ -36,13 +36,16 @@ unfoldable pub bytes : ℕ → ℕ → List ℕ
 bytes k zero = []
 bytes k (suc n) = k ∷ bytes (suc k) n
 
+-- memory after a nest's plain loop; nothing if the nest is refused
 unfoldable pub plainFor : Nested → List ℕ → List ℕ
 plainFor (refused x at) memory = []
 plainFor (nest m) memory = plainLoop m memory
 
+-- memory after a nest's bytes were translated and run
 unfoldable pub ranFor : ℕ → List ℕ → List ℕ → List ℕ
 ranFor vl s memory = runNest vl s memory .progress .world .memory
 
+-- the answer of translating and running a nest's bytes
 unfoldable pub answerOf : ℕ → List ℕ → List ℕ → Answered
 answerOf vl s memory = asOutcome (runNest vl s memory)
 

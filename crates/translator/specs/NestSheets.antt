@@ -61,6 +61,7 @@ unfoldable pub modifiersFrom : Nest → ℕ → ℕ → List Modifier
 modifiersFrom m o zero = []
 modifiersFrom m o (suc n) = modifiersAt m o 0 o ++ modifiersFrom m (suc o) n
 
+-- all size modifiers of a nest, in the order of the sheet
 abbrev pub modifiersOf : Nest → List Modifier
 modifiersOf m = modifiersFrom m 0 (m .loops)
 
@@ -83,7 +84,7 @@ abbrev pub streamOf : Nest → ℕ → Kind → Access → Stream
 streamOf m register kind a =
     record { header = headerFor m register kind; base = a .base; dimensions = dimensionsFrom m register a 0 (m .loops); modifiers = modifiersOf m }
 
--- the shape and the patterns that it comes to
+-- the shape that it comes to
 abbrev pub shapeOf : Nest → Shape
 shapeOf m = record {
   dims = m .loops;
@@ -93,6 +94,7 @@ shapeOf m = record {
   coupling = couplingOf (m .coupled);
 }
 
+-- the pattern of an access that it comes to
 abbrev pub patternFor : Nest → Access → Pattern
 patternFor m a = record { shape = shapeOf m; base = a .base; offsets = replicate 7 noBytes; strides = a .strides }
 
@@ -129,6 +131,7 @@ sheetOps m = streamOps m 1 Load (m .first) ++ (streamOps m 2 Load (m .second) ++
 abbrev pub runOp : Operation
 runOp = op.Run 1 1
 
+-- the one calculation: the nest's operation of registers 1 and 2, to register 3
 abbrev pub calculationOf : Nest → Calculation
 calculationOf m = record { action = m .action; destination = 3; first = 1; second = 2 }
 

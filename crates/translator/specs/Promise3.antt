@@ -33,6 +33,7 @@ use Rattle.translator.specs.declared.nest.NestAnswer.{NestAnswer}
 
 -- ---- premise 1: every element of every visit lies inside memory
 
+-- the elements of a visit, of both sources and of the destination, lie inside a memory of len bytes
 pub record Inside (m : Nest) (len : ℕ) (v : List ℕ) : Type 0 where
   pub first : Lies len (widthOf m) (placeOf m (m .first) v)
   pub second : Lies len (widthOf m) (placeOf m (m .second) v)
@@ -42,6 +43,7 @@ pub record Inside (m : Nest) (len : ℕ) (v : List ℕ) : Type 0 where
 abbrev pub visit : Nest → ℕ → List ℕ
 visit m k = getD (visits m) k []
 
+-- every element of every visit lies inside memory
 abbrev pub AllInside : Nest → ℕ → Type 0
 AllInside m len = (k : ℕ) → k < length (visits m) → Inside m len (visit m k)
 
@@ -52,9 +54,11 @@ pub record Byte (width : ℕ) (a : ℤ) (x : ℕ) : Type 0 where
   pub least : a ≤ℤ pos x
   pub most : pos (suc x) ≤ℤ (a +ℤ pos width)
 
+-- visit v writes byte x: it is a byte of the destination's element
 abbrev pub Writes : Nest → List ℕ → ℕ → Type 0
 Writes m v x = Byte (widthOf m) (placeOf m (m .destination) v) x
 
+-- visit v reads byte x: it is a byte of a source's element
 abbrev pub Reads : Nest → List ℕ → ℕ → Type 0
 Reads m v x = Byte (widthOf m) (placeOf m (m .first) v) x ⊎ Byte (widthOf m) (placeOf m (m .second) v) x
 
@@ -127,6 +131,7 @@ pub record Delivered (s : List ℕ) (vl : ℕ) (memory : List ℕ) (r : NestAnsw
 
 -- ---- all of it
 
+-- what is promised of nests: which bytes are one, what translating does, the visits, and demand 3
 pub record Promised : Type 0 where
   pub nesting : (s : List ℕ) → areBytes s → Nesting s
   pub translating : (m : Nest) (room : List ℕ) → Accepted m → Translating m room

@@ -16,11 +16,12 @@ use Rattle.translator.specs.Reading.{Nested, nest, refused, nestAt}
 use Rattle.translator.specs.Reading
 use Rattle.translator.specs.Examples.{oneBytes}
 
--- a nest that is refused: the number and the place
+-- a nest that is accepted, or refused: the number and the place
 pub data Heard : Type 0 where
   accepted : Heard
   no : ℕ → ℕ → Heard
 
+-- what is heard of bytes as a nest: accepted, or the refusal's number and place
 unfoldable pub heard : Nested → Heard
 heard (nest m) = accepted
 heard (refused x at) = no (numberOf x) at
