@@ -117,13 +117,16 @@ module _ (s : Shape) (a : Accepted s) where
           }
 
   module _ (lanes n : ℕ) (p : 1 ≤ lanes) (h : n < length (elements s)) where
+    -- its length: the lanes, or what is left of the group if that is less
     size : length (chunk s lanes n) ≡ min lanes (leftInGroup (groupsOf s) n)
     size = chunk-length (groupsOf s) lanes n
 
+    -- it has an element
     some : 1 ≤ length (chunk s lanes n)
     unfolding elements
     some = chunk-some (groupsOf s) lanes n p (omega (arith, ap length (groups-join (sizeAt s) (s .dims) (s .coupling) cover)))
 
+    -- if coupled, its elements are of one pass
     one-pass : (c : ℕ) → s .coupling ≡ Coupled c → (k : ℕ) → suc k < length (chunk s lanes n)
         → drop c (getD (chunk s lanes n) k []) ≡ drop c (getD (chunk s lanes n) (suc k) [])
     one-pass c e k q =
@@ -133,6 +136,7 @@ module _ (s : Shape) (a : Accepted s) where
         ∙ same-pass c e (n + k) (omega (arith, size, left-in n (omega arith))) .1 (omega (arith, size, left-by (groupsOf s) n k (omega (arith, size))))
         ∙ ap (drop c) (sym (f (suc k) q ∙ ap (λ i. getD (elements s) i []) j))
 
+    -- it is shorter than the lanes only at the end of the stream or of a pass
     full : length (chunk s lanes n) < lanes
         → (n + length (chunk s lanes n) ≡ length (elements s)) ⊎ PassEnds s (n + length (chunk s lanes n))
     full q =

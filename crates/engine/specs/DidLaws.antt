@@ -164,17 +164,19 @@ module _ (vl : ℕ) (c : Calculation) (w : World) (g : AllGood vl (w .machine)) 
     pub did-taken : (i : ℕ) → i < 32 → taken i ≡ movedIn vl c w i
     did-taken i h = each i h .0
 
+    -- it leaves the registers that the effect leaves
     same-registers : v .machine .registers ≡ effect vl c w .machine .registers
     same-registers =
         ext-getD noRegister (v .machine .registers) (effect vl c w .machine .registers) (d .registers ∙ sym (effect-length vl c w ∙ g .all))
         (λ i h. each i (omega (arith, d .registers)) .1)
 
+    -- and the memory
     same-memory : v .memory ≡ effect vl c w .memory
     same-memory =
         stores-one not-refused (v .memory)
         (subst (λ vs. Stores c w (results vl c w) vs (v .memory)) (did-taken (c .destination) (nm .destination))
         (subst (λ xs. Stores c w xs (taken (c .destination)) (v .memory)) out-one (d .stores)))
 
-    -- and is the effect
+    -- so it is the effect
     pub did-one : v ≡ effect vl c w
     did-one = ap₂ (λ x y. record { machine = record { registers = x }; memory = y }) same-registers same-memory

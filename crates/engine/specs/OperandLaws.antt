@@ -1,6 +1,5 @@
 -- Operands against what a calculation says of registers.
 --
---   LengthOf                 a vector length that is allowed
 --   source-count, source-outside, source-lanes, source-after   an operand that is a source
 --   target-count, target-outside, target-after, target-memory  one that is the destination
 use Prim.Native.Nat.{ℕ, _/_, _≤_, _<_, min}

@@ -23,18 +23,20 @@ use Rattle.translator.specs.PlainLaws.{threeOf, one-chunk}
 use Rattle.translator.specs.declared.nest.Nest.{Nest}
 
 module _ {A : Type 0} (z : A) (l k : List A) where
-  -- each of the first of two parts; of the second
+  -- what holds of each member holds of each of the first of two parts
   each-front : (P : A → Type 0) → Each z P (l ++ k) → Each z P l
   each-front P e j h = subst P (List·getD-append l k z j h) (e j (omega (arith, length-append l k)))
 
+  -- what holds of each member holds of each of the second of two parts
   each-back : (P : A → Type 0) → Each z P (l ++ k) → Each z P k
   each-back P e j h = subst P (getD-append-add l k j z) (e (length l + j) (omega (arith, length-append l k)))
 
-  -- any two of the first of two parts, the earlier first; of the second
+  -- what holds of any two, the earlier first, holds of any two of the first of two parts
   ordered-front : (R : A → A → Type 0) → Ordered z R (l ++ k) → Ordered z R l
   ordered-front R e i j p h =
       rw (List·getD-append l k z i (omega arith), List·getD-append l k z j h) at (e i j p (omega (arith, length-append l k)))
 
+  -- what holds of any two, the earlier first, holds of any two of the second of two parts
   ordered-back : (R : A → A → Type 0) → Ordered z R (l ++ k) → Ordered z R k
   ordered-back R e i j p h =
       rw (getD-append-add l k i z, getD-append-add l k j z) at (e (length l + i) (length l + j) (omega arith) (omega (arith, length-append l k)))

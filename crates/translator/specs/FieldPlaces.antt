@@ -80,12 +80,13 @@ loops-apart t (suc n) h =
         all-loops (λ g. place g ≡ place f → ⊥) (suc t) n (suc t + n) refl .1
         (λ k l u. record { count = c k l (omega arith); terms = λ o v w. d k o l v (omega arith) })
 
--- the parts of accesses are the last three
+-- the parts of accesses are the last three: at least 3
 part-least : (a : Role) → 3 ≤ accessPart a
 part-least first = omega arith
 part-least second = omega arith
 part-least destination = omega arith
 
+-- the parts of accesses are at most 5
 part-most : (a : Role) → accessPart a ≤ 5
 part-most first = omega arith
 part-most second = omega arith

@@ -2,7 +2,6 @@
 --
 --   head-refused, rest-refused, nest-trailing, nest-ruled   each way in which reading ends
 --   read-ranged              a nest that was read is in range and tidy
---   done-accepted            one that is not refused is accepted
 use Prim.Native.Nat.{ℕ, _≤_, _<_}
 use mathlib.Core.Path.{_≡_, refl, sym, _∙_, subst}
 use mathlib.Core.Logic.{_⊎_, inl, inr}
@@ -55,6 +54,7 @@ module _ (s : List ℕ) (p : areBytes s) (a b : Part) (f : partOf a ≡ readFrom
       let q = stood s (a .cursor .at) (b .cursor .at) (a .nest) (b .nest) one two in
       (q .0, q .1)
 
+  -- what is left to look at: bytes after the numbers, and the rules
   whole : nestAt s ≡ wholeAt s (b .nest) (b .cursor .at)
   unfolding nestAt
   whole =
@@ -74,6 +74,7 @@ module _ (s : List ℕ) (p : areBytes s) (a b : Part) (f : partOf a ≡ readFrom
 
 -- ---- refusals
 
+-- a refusal of some numbers is the refusal of the nest
 stays : (v : Verdict) (m : Nest) (at : ℕ) (k : Nest → ℕ → Nested) → isRefused v ≡ true → onRead refused (readOf v m at) k ≡ nestedOf v m
 stays Done m at k e = absurd (let z : _≡_ {A = ℕ} 0 1 = cc in omega arith)
 stays (Refused x place) m at k e = refl

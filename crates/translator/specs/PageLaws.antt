@@ -23,11 +23,13 @@ use Rattle.translator.specs.declared.nest.Access.{Access}
 use Rattle.translator.specs.declared.nest.Nest.{Nest}
 use Rattle.translator.specs.declared.write.Page.{Page}
 
+-- some operations, then others
 pub put-then : (os ps : List Operation) (p : Page) → putAll (os ++ ps) p ≡ putAll ps (putAll os p)
 unfolding putAll
 put-then [] ps p = refl
 put-then (o ∷ os) ps p = put-then os ps (putOne o p)
 
+-- one modifier that is left out, or written before the others
 by-cond : (b : Bool) (register : ℕ) (xs : List Modifier) (q : Modifier) (p : Page)
     → putAll (map (modifierOp register) (cond b xs (q ∷ xs))) p ≡ putAll (map (modifierOp register) xs) (cond b p (putOne (modifierOp register q) p))
 unfolding putAll
@@ -45,6 +47,7 @@ terms-next m register d t p h =
     let f : t + 1 ≡ suc t = omega arith in
     rw (e, f) (by-cond (eqb (natAbs (termOf m t d)) 0) register (modifiersAt m d (suc t) (d - suc t)) (modifierOf m d t) p)
 
+-- no term is left: nothing more is written
 pub terms-end : (m : Nest) (register d t : ℕ) (p : Page) → d ≤ t → putAll (map (modifierOp register) (modifiersAt m d t (d - t))) p ≡ p
 unfolding modifiersAt putAll
 terms-end m register d t p h = let e : d - t ≡ 0 = omega arith in rw e
@@ -61,6 +64,7 @@ dimensions-next m register a d n p h =
     rw (e, f)
     (put-then (map (modifierOp register) (modifiersAt m d 0 d)) (dimensionOps m register a (suc d) (n - suc d)) (putOne (op.Dimension (dimensionOf m register a d)) p))
 
+-- no dimension is left: nothing more is written
 pub dimensions-end : (m : Nest) (register : ℕ) (a : Access) (d n : ℕ) (p : Page) → n ≤ d → putAll (dimensionOps m register a d (n - d)) p ≡ p
 unfolding dimensionOps putAll
 dimensions-end m register a d n p h = let e : n - d ≡ 0 = omega arith in rw e

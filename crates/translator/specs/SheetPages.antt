@@ -2,7 +2,7 @@
 --
 --   sets-then                      bytes stored one behind the other
 --   Writable                       operations that can all be written
---   page-then, page-last           where there is room for them, they stand on the page
+--   page-then, last-on             where there is room for them, they stand on the page
 --   sheet-writable                 the operations of a nest in range can all be written
 --   sheet-page                     the page of an accepted nest
 use Prim.Native.Nat.{ℕ, zero, suc, _+_, _≤_, _<_}
@@ -55,10 +55,12 @@ onPage bytes p = record { bytes = sets (p .bytes) (p .at) bytes; at = p .at + le
 abbrev Room : ℕ → Page → Type 0
 Room n p = p .at + n ≤ length (p .bytes)
 
+-- an operation in range for which there is room stands on the page
 put-on : (o : Operation) (p : Page) → operationInRange o ≡ true → Room (length (operationBytes 0 o)) p → putOne o p ≡ onPage (operationBytes 0 o) p
 unfolding putOne writtenTo bytesAfter
 put-on o p e h = rw (e, le-leb (p .at + length (operationBytes 0 o)) (length (p .bytes)) h)
 
+-- a calculation in range for which there is room stands on the page
 last-on : (c : Calculation) (p : Page) → calculationInRange c ≡ true → Room (length (calculationBytes c)) p → putCalculation c p ≡ onPage (calculationBytes c) p
 unfolding putCalculation writtenTo bytesAfter
 last-on c p e h = rw (e, le-leb (p .at + length (calculationBytes c)) (length (p .bytes)) h)
@@ -68,11 +70,13 @@ unfoldable pub Writable : List Operation → Type 0
 Writable [] = Unit {0}
 Writable (o ∷ os) = (operationInRange o ≡ true) × Writable os
 
+-- bytes on a page, then others, are both on it, one behind the other
 then-on : (a b : List ℕ) (p : Page) → onPage b (onPage a p) ≡ onPage (a ++ b) p
 then-on a b p =
     let e : p .at + length a + length b ≡ p .at + (length a + length b) = omega arith in
     rw (sets-then a b (p .bytes) (p .at), length-append a b, e)
 
+-- operations that can all be written, and for which there is room, stand on the page
 page-then : (os : List Operation) (p : Page) → Writable os → Room (length (bytesOfAll os)) p → putAll os p ≡ onPage (bytesOfAll os) p
 unfolding putAll Writable bytesOfAll
 page-then [] p w h = rw (add-zero (p .at))
@@ -85,26 +89,31 @@ page-then (o ∷ os) p w h =
 
 -- ---- the operations of a nest
 
+-- the operations of two lists, one behind the other
 writable-then : (os ps : List Operation) → Writable os → Writable ps → Writable (os ++ ps)
 unfolding Writable
 writable-then [] ps v w = w
 writable-then (o ∷ os) ps v w = (v .0, writable-then os ps (v .1) w)
 
+-- "base address | 0 to 1,048,576": such a base is in range
 base-in : (z : ℤ) → pos 0 ≤ℤ z → z ≤ℤ pos 1048576 → (nonNeg z && isBase (natAbs z)) ≡ true
 base-in (pos n) h k = test-plain (leb n 1048576) .1 (k .le)
 base-in (negsuc n) h k = absurd (h .le)
 
+-- "coupled loop 0 to D (0 none)": it is a coupling in range
 coupling-in : (c : ℕ) → c ≤ 7 → couplingInRange (couplingOf c) ≡ true
 coupling-in zero h = refl
 coupling-in (suc c) h = rw (le-leb 1 (suc c) (omega arith), le-leb (suc c) 7 h)
 
 module _ (m : Nest) (r : InRange m) (register : ℕ) (small : register ≤ 31) where
+  -- the modifier of a term can be written
   term-in : (d t : ℕ) → t < d → d < m .loops → operationInRange (modifierOp register (modifierOf m d t)) ≡ true
   unfolding operationInRange
   term-in d t h k =
       rw
       (le-leb register 31 small, le-leb t 6 (omega (arith, r .loops-most)), le-leb (natAbs (termOf m t d)) 1048576 (r .terms t d h k))
 
+  -- the modifiers of a dimension can all be written
   terms-in : (d t n : ℕ) → t + n ≤ d → d < m .loops → Writable (map (modifierOp register) (modifiersAt m d t n))
   unfolding Writable modifiersAt
   terms-in d t zero h k = tt
@@ -116,6 +125,7 @@ module _ (m : Nest) (r : InRange m) (register : ℕ) (small : register ≤ 31) w
       by false w = (term-in d t (omega arith) k, w)
 
   module _ (a : Access) (q : AccessInRange (m .loops) a) where
+    -- a dimension can be written
     dimension-in : (d : ℕ) → d < m .loops → operationInRange (op.Dimension (dimensionOf m register a d)) ≡ true
     unfolding operationInRange
     dimension-in d h =
@@ -125,6 +135,7 @@ module _ (m : Nest) (r : InRange m) (register : ℕ) (small : register ≤ 31) w
           le-leb (natAbs (getD (a .strides) d noElements .0)) 1048576 (q .strides d h),
         )
 
+    -- the dimensions with their modifiers can all be written
     dimensions-in : (d n : ℕ) → d + n ≤ m .loops → Writable (dimensionOps m register a d n)
     unfolding Writable dimensionOps
     dimensions-in d zero h = tt
@@ -134,6 +145,7 @@ module _ (m : Nest) (r : InRange m) (register : ℕ) (small : register ≤ 31) w
           (dimensions-in (suc d) n (omega arith)),
     )
 
+    -- the operations of a stream can all be written
     stream-in : (kind : Kind) → Writable (streamOps m register kind a)
     unfolding Writable operationInRange
     stream-in kind = (
@@ -142,6 +154,7 @@ module _ (m : Nest) (r : InRange m) (register : ℕ) (small : register ≤ 31) w
       writable-then (dimensionOps m register a 0 (m .loops)) (op.End register ∷ []) (dimensions-in 0 (m .loops) (omega arith)) (le-leb register 31 small, tt),
     )
 
+-- the operations of a nest in range can all be written
 pub sheet-writable : (m : Nest) → InRange m → Writable (sheetOps m ++ (runOp ∷ []))
 unfolding Writable operationInRange
 sheet-writable m r =
@@ -168,26 +181,32 @@ blank-on b bytes e h = record {
   fits = h;
 }
 
+-- the calculation of a nest in range can be written: it is no copy
 calculation-in : (m : Nest) → InRange m → calculationInRange (calculationOf m) ≡ true
 calculation-in m r = rw (ne-eqb (actionCode (m .action)) 0 (λ e. omega (arith, r .operation)))
 
 -- the page of an accepted nest
 module _ (m : Nest) (p : Page) (a : Accepted m) (s : SheetPage m p) where
+  -- the bytes of all operations, the run the last of them
   abbrev body : List ℕ
   body = bytesOfAll (sheetOps m ++ (runOp ∷ []))
 
+  -- the bytes of the calculation
   abbrev last : List ℕ
   last = calculationBytes (calculationOf m)
 
+  -- together they are the sheet
   sheet-is : body ++ last ≡ sheetOf m
   unfolding sheetOf bytesOfAll
   sheet-is =
       rw (all-append (sheetOps m) (runOp ∷ []), append-nil (operationBytes 0 runOp))
       (append-assoc (bytesOfAll (sheetOps m)) (operationBytes 0 runOp) last)
 
+  -- together they are at most 1,024
   short : length body + length last ≤ 1024
   short = omega (arith, sheet-most m (a .range .loops-most) (a .few), ap length sheet-is, length-append body last)
 
+  -- the page is a blank one with the sheet's bytes on it
   sheet-on : p ≡ onPage (sheetOf m) (s .blank)
   sheet-on =
       let b = s .blank in
@@ -199,5 +218,6 @@ module _ (m : Nest) (p : Page) (a : Accepted m) (s : SheetPage m p) where
       ∙ then-on body last b
       ∙ ap (λ l. onPage l b) sheet-is
 
+  -- it holds the sheet's bytes
   pub sheet-page : Holds p (sheetOf m)
   sheet-page = rw sheet-on (blank-on (s .blank) (sheetOf m) (s .empty) (omega (arith, sheet-most m (a .range .loops-most) (a .few))))

@@ -128,19 +128,23 @@ module _ (m : Nest) (ac : Accepted m) where
   abbrev at3 : ℕ
   at3 = 0 + length opsBytes
 
-  -- where each part stands
+  -- where each part stands: all of it
   whole : Stands (sheetOf m) 0 (opsBytes ++ runBytes) (length (sheetOf m))
   whole = all-stand (sheetOf m) (opsBytes ++ runBytes) sheet-bytes
 
+  -- the operations of all three streams, in front
   ops-stand : Stands (sheetOf m) 0 opsBytes at3
   ops-stand = stands-front (sheetOf m) opsBytes runBytes 0 (length (sheetOf m)) whole
 
+  -- those of the first stream
   first-stands : Stands (sheetOf m) 0 (bytes first) at1
   first-stands = stands-front (sheetOf m) (bytes first) (bytes second ++ bytes destination) 0 at3 ops-stand
 
+  -- those of the second and the third, behind it
   rest-stands : Stands (sheetOf m) at1 (bytes second ++ bytes destination) at3
   rest-stands = stands-back (sheetOf m) (bytes first) (bytes second ++ bytes destination) 0 at3 ops-stand
 
+  -- the run, behind all of them
   run-stands : Stands (sheetOf m) at3 runBytes (length (sheetOf m))
   run-stands = stands-back (sheetOf m) opsBytes runBytes 0 (length (sheetOf m)) whole
 
