@@ -27,7 +27,7 @@ numberOf Lengths = 15
 numberOf LoopRegister = 16
 numberOf NoRoom = 17
 
--- the refusal that has a number
+-- the refusal that has a number, 1 to 17; no refusal has another
 abbrev pub numbered : ℕ → Refusal
 numbered zero = BadNumber
 numbered (suc zero) = BadNumber

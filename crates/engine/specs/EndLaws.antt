@@ -50,14 +50,14 @@ running-begun vl loop body w l h nm g e =
     record { lanes = l; below = h; named = nm; source = a .1; good = g; load = b .1; stream = b .0; verdict = refl }
 
 module _ (vl loop : ℕ) (body : List Placed) where
-  -- a run that is not open does nothing
+  -- where the loop register's stream is not open a run does nothing
   pub repeat-shut : (n : ℕ) (g : Progress) → isOpen (reg (g .world .machine) loop .state) ≡ false → repeat vl loop body n g ≡ g
   unfolding repeat
   repeat-shut zero g e = refl
   repeat-shut (suc n) g e =
       ap (λ b. cond b (unlessRefused (pass vl body g .verdict) (pass vl body g) (repeat vl loop body n (counted (pass vl body g)))) g) e
 
-  -- one that is open does a pass, and the rest unless that is refused
+  -- where it is open a run does a pass, and the rest unless that is refused
   pub repeat-open : (n : ℕ) (g : Progress) → isOpen (reg (g .world .machine) loop .state) ≡ true
       → repeat vl loop body (suc n) g ≡ unlessRefused (pass vl body g .verdict) (pass vl body g) (repeat vl loop body n (counted (pass vl body g)))
   unfolding repeat

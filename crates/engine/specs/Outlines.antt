@@ -31,6 +31,6 @@ extentOf p width = record {
   last = addressAt p width (length (elements (p .shape)) - 1);
 }
 
--- a stream has been ended if its register is open or finished
+-- what a register's stream comes to, if it was ended: then the register is open or finished
 unfoldable pub outlineOf : Register → Outline
 outlineOf r = cond (isOpen (r .state) || isFinished (r .state)) (Stream (extentOf (r .pattern) (r .width))) Unended

@@ -265,7 +265,7 @@ pub data Encoded (s : List ℕ) : Type 0 where
 
 -- ---- what is refused, and nothing else
 
--- "not refused" exactly if the plain conditions hold: of the lengths, every operation that configures, 16 and every calculation
+-- not refused exactly if the plain conditions hold: of the lengths, every operation that configures, 16 and every calculation
 pub record Unrefused : Type 0 where
   pub lengths : (vl len : ℕ) → (allowed vl len ≡ true) ↔ Fits vl len
   pub operation : (o : Operation) (m : Machine) → Configures o → (whyNot o m ≡ Nothing) ↔ Accepts o (reg m (registerOf o))

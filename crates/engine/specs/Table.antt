@@ -113,7 +113,7 @@ unfoldable pub trail : ℕ → List Placed → ℕ → Progress → List Seen
 trail vl cs zero g = []
 trail vl cs (suc n) g = let q : Progress = counted (pass vl cs g) in lookedAt (q .world .machine) ∷ trail vl cs n q
 
--- after each of n passes of a sheet's run, if there is one
+-- what is seen after each of n passes of a sheet's run; nothing if it has none
 unfoldable pub trailOf : ℕ → ℕ → World → Ending → List Seen
 trailOf vl n w over = []
 trailOf vl n w (runs loop cs) = trail vl cs n (begun w)

@@ -78,7 +78,7 @@ keptOf xs = record { count = length xs; modifiers = filled 8 noModifier xs }
 one-more : (q : Modifier) (k : Kept) → k .count < 8 → keepOne q k ≡ record { count = k .count + 1; modifiers = set (k .modifiers) (k .count) q }
 one-more q k h = rw (lt-ltb (k .count) 8 h)
 
--- one more behind the eighth: only the count changes
+-- one more behind the eighth: the count is 9, and all else stays
 one-over : (q : Modifier) (k : Kept) → 8 ≤ k .count → keepOne q k ≡ record { count = 9; modifiers = k .modifiers }
 one-over q k h = rw (le-ltb (k .count) 8 h)
 

@@ -84,7 +84,7 @@ abbrev pub streamOf : Nest → ℕ → Kind → Access → Stream
 streamOf m register kind a =
     record { header = headerFor m register kind; base = a .base; dimensions = dimensionsFrom m register a 0 (m .loops); modifiers = modifiersOf m }
 
--- the shape that it comes to
+-- the shape that each stream of the sheet comes to
 abbrev pub shapeOf : Nest → Shape
 shapeOf m = record {
   dims = m .loops;
@@ -94,7 +94,7 @@ shapeOf m = record {
   coupling = couplingOf (m .coupled);
 }
 
--- the pattern of an access that it comes to
+-- the pattern that the stream of an access comes to
 abbrev pub patternFor : Nest → Access → Pattern
 patternFor m a = record { shape = shapeOf m; base = a .base; offsets = replicate 7 noBytes; strides = a .strides }
 

@@ -108,7 +108,7 @@ stays : (v : Verdict) (m : Nest) (at : ℕ) (k : Nest → ℕ → Read) → isRe
 stays Done m at k e = absurd (let z : _≡_ {A = ℕ} 0 1 = cc in omega arith)
 stays (Refused x place) m at k e = refl
 
--- what follows numbers that were read
+-- where the numbers were read, what follows goes on with them
 pub goes : {A : Type 0} (refuse : Refusal → ℕ → A) (v : Verdict) (m : Nest) (at : ℕ) (k : Nest → ℕ → A) → isRefused v ≡ false
     → onRead refuse (readOf v m at) k ≡ k m at
 goes refuse Done m at k e = refl

@@ -30,7 +30,7 @@ abbrev pub readOf : Verdict → Nest → ℕ → Read
 readOf Done m at = upTo m at
 readOf (Refused x place) m at = refused x place
 
--- a part of a nest that was read
+-- what was read of a nest, as the code keeps it
 abbrev pub partOf : Part → Read
 partOf p = readOf (p .verdict) (p .nest) (p .cursor .at)
 
@@ -49,7 +49,7 @@ abbrev pub accessRead : Verdict → Access → ℕ → ReadAccess
 accessRead Done a at = got a at
 accessRead (Refused x place) a at = not x place
 
--- an access that was read by itself
+-- what was read of an access, as the code keeps it
 abbrev pub sideOf : Side → ReadAccess
 sideOf p = accessRead (p .verdict) (p .access) (p .cursor .at)
 

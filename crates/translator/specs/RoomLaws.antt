@@ -109,13 +109,13 @@ module _ (m : Nest) (register : ℕ) (h : register < 128) where
         length-append (modifiersAt m d 0 d) (modifiersFrom m (suc d) n),
       )
 
-  -- open has at most eleven bytes, end has
+  -- open has at most eleven bytes
   open-most : (kind : Kind) (a : Access) → length (operationBytes 0 (op.Open (headerFor m register kind) (a .base))) ≤ 11
   unfolding operationBytes
   open-most kind a =
       simp length-append (omega (arith, number-small 1 (omega arith), number-most (wordOf (headerFor m register kind) + 0), number-most (natAbs (a .base .0))))
 
-  -- two bytes
+  -- end has at most two bytes
   end-most : length (bytesOfAll (op.End register ∷ [])) ≤ 2
   unfolding bytesOfAll operationBytes
   end-most = simp length-append (omega (arith, number-small 4 (omega arith), number-small register h))

@@ -89,7 +89,7 @@ page-then (o ∷ os) p w h =
 
 -- ---- the operations of a nest
 
--- the operations of two lists, one behind the other
+-- the operations of two lists can all be written if those of each can
 writable-then : (os ps : List Operation) → Writable os → Writable ps → Writable (os ++ ps)
 unfolding Writable
 writable-then [] ps v w = w

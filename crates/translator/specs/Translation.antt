@@ -77,16 +77,16 @@ pub data Answered : Type 0 where
   done : ℕ → ℕ → Answered
   refusal : ℕ → ℕ → ℕ → ℕ → Answered
 
--- the answer of translating
+-- the answer of translating, by 01's numbers
 abbrev pub asTranslated : Translated → Answered
 asTranslated (answer.Sheet n) = sheet n
 asTranslated (answer.Refused x at) = refusal (numberOf x) at 0 0
 
--- a verdict and both counts
+-- a verdict and both counts, by 01's numbers
 abbrev pub asVerdict : Verdict → Report → Answered
 asVerdict Done r = done (r .passes) (r .calculations)
 asVerdict (Refused x at) r = refusal (numberOf x) at (r .passes) (r .calculations)
 
--- the answer of translating and running
+-- the answer of translating and running, by 01's numbers
 abbrev pub asOutcome : Outcome → Answered
 asOutcome o = asVerdict (o .progress .verdict) (o .progress .report)
