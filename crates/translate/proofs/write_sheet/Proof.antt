@@ -1,11 +1,11 @@
--- `translate::main` meets its contract: a sheet that was written lies inside the room.
+-- `translate::write_sheet` meets its contract: a sheet that was written lies inside the room.
 use native.Mathlib.Omega.{arith}
 use borrow.Author.Needs.{needs}
 use Prim.Native.Nat.{ℕ, _≤_}
 use mathlib.Core.Path.{_≡_, refl, sym, _∙_}
 use mathlib.Core.List.{List}
 use mathlib.Core.Bool.{Bool, true, false, cond}
-use lib.ListN.{length, take}
+use lib.ListN.{length}
 use lib.Seq.{length-take-le}
 use lib.Dec.{leb}
 use borrow.Author.Tests.{leb-true}
@@ -14,8 +14,8 @@ use Rattle.translator.specs.NestSheets.{sheetOf}
 use Rattle.translator.specs.Reading.{Nested, nest, refused, nestAt}
 use Rattle.translator.specs.Translation.{translated}
 use Rattle.translator.specs.declared.nest.Translated.the-variants.{Sheet, Refused}
-use Rattle.translate.proofs.main.Statement.{statement}
-use Rattle.translate.proofs.main.Tie as tie
+use Rattle.translate.proofs.write_sheet.Statement.{statement}
+use Rattle.translate.proofs.write_sheet.Tie as tie
 
 -- a sheet that was written is not longer than the room
 by : (size n k : ℕ) (b : Bool) → leb k size ≡ b → Sheet n ≡ cond b (Sheet k) (Refused NoRoom 0) → n ≤ size
@@ -32,23 +32,8 @@ within-bytes s = within (nestAt s)
 small : (c : tie.After-answer) → c .answer .given .0 .0 ≤ 1024
 small c = within-bytes _ 1024 _ (sym (c .answer .given .1) ∙ c .before .before .before .translate .ensures .0)
 
-slice-aggregate-read-full : tie.Need-slice-aggregate-read-full
-slice-aggregate-read-full c = search needs
-
-read-full-requires : tie.Need-read-full-requires
-read-full-requires c κs = search needs
-
-returns : tie.Need-returns
-returns c = search needs
-
-array-share-prefix-nest : tie.Need-array-share-prefix-nest
-array-share-prefix-nest c = search needs
-
 slice-aggregate-translate : tie.Need-slice-aggregate-translate
 slice-aggregate-translate c = search needs
-
-slice-aggregate-translate-2 : tie.Need-slice-aggregate-translate-2
-slice-aggregate-translate-2 c = search needs
 
 translate-requires : tie.Need-translate-requires
 translate-requires c κs = search needs
@@ -59,8 +44,8 @@ enum-known-answer c = search needs
 enum-told : tie.Need-enum-told
 enum-told c = search needs
 
-returns-2 : tie.Need-returns-2
-returns-2 c = search needs
+returns : tie.Need-returns
+returns c = search needs
 
 array-share-prefix-room : tie.Need-array-share-prefix-room
 array-share-prefix-room c =
@@ -75,24 +60,19 @@ slice-aggregate-write-all c =
 write-all-requires : tie.Need-write-all-requires
 write-all-requires c κs = search needs
 
-returns-3 : tie.Need-returns-3
-returns-3 c = search needs
+returns-2 : tie.Need-returns-2
+returns-2 c = search needs
 
-pub main-spec : {M : Type 1} → statement M
-main-spec =
+pub write-sheet-spec : {M : Type 1} → statement M
+write-sheet-spec =
     tie.close
     (tie.spec
-    slice-aggregate-read-full
-    read-full-requires
-    returns
-    array-share-prefix-nest
     slice-aggregate-translate
-    slice-aggregate-translate-2
     translate-requires
     enum-known-answer
     enum-told
-    returns-2
+    returns
     array-share-prefix-room
     slice-aggregate-write-all
     write-all-requires
-    returns-3)
+    returns-2)

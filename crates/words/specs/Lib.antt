@@ -1,0 +1,4 @@
+pub mod Changes
+pub mod Decimals
+pub mod Files
+pub mod Registers
