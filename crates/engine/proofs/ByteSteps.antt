@@ -45,3 +45,15 @@ grown b x n m p h e =
     let f : 8 * m ≡ 8 * n + 8 = omega arith in
     let g : 2 ^ (8 * n + 8) ≡ 2 ^ (8 * n) * 256 = pow-add 2 (8 * n) 8 in
     rw (f, g) (omega arith)
+
+-- a number of one byte
+pub one-loaded : (l : List ℕ) (at n : ℕ) → n ≡ 1 → valueAt l at n ≡ getD l at 0
+unfolding valueAt
+one-loaded l at n e = rw e (omega arith)
+
+pub one-stored : (l : List ℕ) (at n x : ℕ) → n ≡ 1 → sets l at (littleEndian n x) ≡ set l at (x % 256)
+unfolding littleEndian
+one-stored l at n x e = rw e
+
+pub one-byte : (b n : ℕ) → n ≡ 1 → b < 256 → b < 2 ^ (8 * n)
+one-byte b n e h = rw e (omega arith)

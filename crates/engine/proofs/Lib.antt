@@ -3,6 +3,7 @@ mod GainSteps
 mod Turns
 mod Found
 mod Rows
+mod RowSteps
 mod Lasts
 mod Moves
 mod Measure

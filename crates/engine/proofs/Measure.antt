@@ -70,6 +70,12 @@ left-at : (s : Shape) (k : Coupling) → Covered (s .dims) k → (n : ℕ) (foun
 left-at s Uncoupled w n found h q e f = left-free s n found q e
 left-at s (Coupled c) w n found h q e f = left-coupled s c w n found h q e f
 
+-- where a chunk goes on, there is an element
+pub goes-found : (k : Coupling) (found : Bool) (h : ℕ) → stopsAt k found h ≡ false → found ≡ true
+goes-found k true h e = refl
+goes-found Uncoupled false h e = sym e
+goes-found (Coupled c) false h e = sym e
+
 -- the plan after k elements, where it goes on
 pub record Going (r : Register) (most k : ℕ) (found : Bool) (place : Place) (h : ℕ) (addresses : List Bytes) : Type 0 where
   pub few : k ≤ most

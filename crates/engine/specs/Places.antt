@@ -1,6 +1,6 @@
 -- Where a walk stands, with what the step to the next element of its row needs.
 --
---   placeAt, alongOf        the place of an element; one element further along its row
+--   placeAt, inRow, alongOf   the place of an element; one in a row; one element further along it
 --   Onward                  what the step from a position says
 --   addressesOf             the addresses of elements
 --   stopsAt                 where a chunk ends
@@ -42,6 +42,10 @@ pub record Onward (p : Pattern) (width k : ℕ) (found : Bool) (place : Place) (
 -- the addresses of elements, in their order
 abbrev pub addressesOf : Pattern → ℕ → List (List ℕ) → List Bytes
 addressesOf p width = map (λ v. record { 0 = address p width v })
+
+-- the place with innermost index i in a row's indices
+abbrev pub inRow : List ℕ → ℕ → Bytes → ℕ → Bytes → Place
+inRow index i address size step = record { index = set index 0 i; address = address; size = size; step = step }
 
 -- one element further along a row
 abbrev pub alongOf : Place → Place

@@ -4,6 +4,7 @@ use crate::stream::Shape;
 use codec::operation::Behaviour;
 use codec::operation::Parameter;
 ghost use mathlib.Core.Path.{_≡_};
+ghost use mathlib.Core.List.{List};
 ghost use Prim.Native.Nat.{ℕ, suc, _<_, _≤_};
 ghost use lib.ListN.{getD, drop};
 ghost use Rattle.engine.specs.Loops.{sameParameter, modifiersOf};
@@ -48,14 +49,14 @@ fn same_behaviour(a: Behaviour, b: Behaviour) -> bool
     }
 }
 
-// What one modifier moves parameter `q` of dimension `d` by, if it is one of behaviour `b`: its owner's index times the displacement.
-fn gain_of(m: Modifier, q: Parameter, b: Behaviour, index: [u64; 7], d: usize) -> u64
-    requires { ⌜ RangedModifier 7 m × ((k : ℕ) → getD index k 0 ≤ 4096) ⌝ }
-    ensures { λ r. ⌜ (r ≡ gainOf q b d (drop (suc d) index) m) × (r ≤ 4294967296) ⌝ }
+// What one modifier moves parameter `q` of dimension `d` by, if it is one of behaviour `b` and its owner stands at index `from`: that
+// index times the displacement.
+pub(crate) fn gain_from(m: Modifier, q: Parameter, b: Behaviour, from: u64, d: usize) -> u64
+    requires { ⌜ RangedModifier 7 m × (from ≤ 4096) ⌝ }
+    ensures { λ r. ⌜ ((v : List ℕ) → from ≡ getD v (m .owner) 0 → r ≡ gainOf q b d (drop (suc d) v) m) × (r ≤ 4294967296) ⌝ }
 {
     let parameter = m.parameter;
     let behaviour = m.behaviour;
-    let owner = m.owner;
     if !same_parameter(parameter, q) {
         return 0;
     }
@@ -65,7 +66,16 @@ fn gain_of(m: Modifier, q: Parameter, b: Behaviour, index: [u64; 7], d: usize) -
     if !same_behaviour(behaviour, b) {
         return 0;
     }
-    index[owner] * m.displacement
+    from * m.displacement
+}
+
+// The same, where the indices are those of `index`.
+fn gain_of(m: Modifier, q: Parameter, b: Behaviour, index: [u64; 7], d: usize) -> u64
+    requires { ⌜ RangedModifier 7 m × ((k : ℕ) → getD index k 0 ≤ 4096) ⌝ }
+    ensures { λ r. ⌜ (r ≡ gainOf q b d (drop (suc d) index) m) × (r ≤ 4294967296) ⌝ }
+{
+    let owner = m.owner;
+    gain_from(m, q, b, index[owner], d)
 }
 
 // What all modifiers of behaviour `b` move parameter `q` of dimension `d` by, at the indices `index`.

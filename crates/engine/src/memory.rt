@@ -26,11 +26,14 @@ fn wide(x: u8) -> u64
     x as u64
 }
 
-// The number whose `width` bytes lie from `at` on: from the top byte down, so that every product is by 256.
+// The number whose `width` bytes lie from `at` on: from the top byte down, so that every product is by 256. A single byte needs no loop.
 pub(crate) fn load(bytes: &[u8], at: usize, width: u64) -> u64
     requires { ⌜ (at + width ≤ length (now bytes)) × (width ≤ 8) ⌝ }
     ensures { λ r. ⌜ (r ≡ valueAt (now (bytes .entry)) at width) × (r < 2 ^ (8 * width)) ⌝ }
 {
+    if width == 1 {
+        return wide(bytes[at]);
+    }
     let mut x: u64 = 0;
     let mut k = width as usize;
     while 0 < k {
@@ -45,6 +48,10 @@ pub(crate) fn store(bytes: &mut [u8], at: usize, width: u64, x: u64)
     requires { ⌜ at + width ≤ length (now bytes) ⌝ }
     ensures { λ _. ⌜ now (bytes .exit) ≡ sets (now (bytes .entry)) at (littleEndian width x) ⌝ }
 {
+    if width == 1 {
+        bytes[at] = (x % 256) as u8;
+        return;
+    }
     let n = width as usize;
     let mut rest = x;
     let mut k = 0;

@@ -18,7 +18,7 @@ ghost use Rattle.engine.specs.Registers.{indexOf};
 ghost use Rattle.engine.specs.Good.{RangedPattern, Accepted};
 ghost use Rattle.engine.specs.AddressLaws.{Small};
 ghost use Rattle.engine.specs.Walk.{Element};
-ghost use Rattle.engine.specs.Places.{placeAt, alongOf, Onward};
+ghost use Rattle.engine.specs.Places.{placeAt, inRow, alongOf, Onward};
 
 // An element's index and address, the innermost size of its pass, and the innermost stride in bytes.
 pub(crate) struct Place {
@@ -48,6 +48,20 @@ pub(crate) fn place_at(p: Pattern, width: u64, index: [u64; 7]) -> Place
     Place {
         index,
         address: here,
+        size,
+        step,
+    }
+}
+
+// The place with innermost index `i` in a row's indices.
+pub(crate) fn in_row(index: [u64; 7], i: u64, address: Bytes, size: u64, step: Bytes) -> Place
+    ensures { λ r. ⌜ r ≡ inRow index i address size step ⌝ }
+{
+    let mut v = index;
+    v[0] = i;
+    Place {
+        index: v,
+        address,
         size,
         step,
     }

@@ -1,6 +1,8 @@
 // The next chunk of a stream, planned: how many lanes, their addresses, and the register after it. No memory is touched, so that a
 // refusal has nothing to undo.
+use crate::address::plus;
 use crate::place::Going;
+use crate::place::in_row;
 use crate::place::place_at;
 use crate::place::step;
 use crate::register::Register;
@@ -9,9 +11,10 @@ use crate::walk::first;
 use codec::amounts::Bytes;
 use codec::header::Coupling;
 ghost use mathlib.Core.Path.{_≡_};
-ghost use mathlib.Core.Bool.{cond};
+ghost use mathlib.Core.Bool.{cond, _&&_};
 ghost use Prim.Native.Nat.{ℕ, _+_, _≤_, _<_, _^_};
 ghost use lib.ListN.{length, replicate};
+ghost use lib.Dec.{ltb};
 ghost use Rattle.engine.specs.Registers.{shapeOf, standing, movedBy};
 ghost use Rattle.engine.specs.Good.{Accepted};
 ghost use Rattle.engine.specs.Places.{Onward, stopsAt, Ready, Planned};
@@ -94,29 +97,48 @@ fn stops(coupling: Coupling, found: bool, height: u64) -> bool
     }
 }
 
-// The plan of the next chunk, at most so many elements of it. The walk goes to the element after the last, and no further.
+// Whether the walk goes on along its row, and the chunk with it.
+fn along_row(through: bool, i: u64, size: u64) -> bool
+    requires { ⌜ i ≤ 4096 ⌝ }
+    ensures { λ q. ⌜ q ≡ (through && ltb (i + 1) size) ⌝ }
+{
+    if through {
+        return i + 1 < size;
+    }
+    false
+}
+
+// The plan of the next chunk, at most so many elements of it. The walk goes to the element after the last, and no further. Along a row
+// only the innermost index and the address move; the seven indices are looked at where a row ends.
 pub(crate) fn plan_chunk(r: Register, most: usize) -> Plan
     requires { ⌜ Ready r × (most ≤ 64) ⌝ }
     ensures { λ q. ⌜ Planned r most (q .count) (q .addresses) (q .after) ⌝ }
 {
     let p = r.pattern;
     let width = r.width;
-    let index = r.index;
     let shape = p.shape;
     let coupling = shape.coupling;
+    let through = !stops(coupling, true, 1);
     let mut addresses = [Bytes(0); 64];
-    let mut g = Going {
-        found: true,
-        place: place_at(p, width, index),
-        height: r.height,
-    };
+    let mut index = r.index;
+    let first = place_at(p, width, index);
+    let mut i = index[0];
+    let mut address = first.address;
+    let mut size = first.size;
+    let mut along = first.step;
+    let mut height = r.height;
     let mut k = 0;
     while k < most {
-        let here = g.place;
-        let address = here.address;
         addresses[k] = address;
-        g = step(p, width, here);
         k += 1;
+        if along_row(through, i, size) {
+            i += 1;
+            address = plus(address, along);
+            height = 1;
+            continue;
+        }
+        let here = in_row(index, i, address, size, along);
+        let g = step(p, width, here);
         if stops(coupling, g.found, g.height) {
             return Plan {
                 count: k,
@@ -124,7 +146,19 @@ pub(crate) fn plan_chunk(r: Register, most: usize) -> Plan
                 after: moved_on(r, k as u64, g),
             };
         }
+        let there = g.place;
+        index = there.index;
+        i = index[0];
+        address = there.address;
+        size = there.size;
+        along = there.step;
+        height = g.height;
     }
+    let g = Going {
+        found: true,
+        place: in_row(index, i, address, size, along),
+        height,
+    };
     Plan {
         count: k,
         addresses,

@@ -10,7 +10,7 @@ ghost use Rattle.engine.specs.Loops.{sizeAt};
 ghost use Rattle.engine.specs.Good.{Ranged};
 
 // `a` less `b`, 0 where `b` is larger.
-fn less(a: u64, b: u64) -> u64
+pub(crate) fn less(a: u64, b: u64) -> u64
     ensures { λ r. ⌜ r ≡ a - b ⌝ }
 {
     if a < b {

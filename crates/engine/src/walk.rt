@@ -1,6 +1,9 @@
 // The walk over a stream's loops: from any element to the next, past empty passes, with no list built.
-use crate::size::size_at;
+use crate::gain::gain_from;
+use crate::size::less;
 use crate::stream::Shape;
+use codec::operation::Behaviour;
+use codec::operation::Parameter;
 ghost use mathlib.Core.Path.{_≡_};
 ghost use mathlib.Core.List.{[], _∷_, map};
 ghost use mathlib.Core.Bool.{Bool, true, cond};
@@ -19,18 +22,32 @@ pub(crate) struct Sought {
     pub index: [u64; 7],
 }
 
-// The first element to come, where dimension start is about to run the index that it has.
+// The first element to come, where dimension start is about to run the index that it has. The size of each dimension on the way is
+// reckoned here, as `size_at` does it, so that nothing is handed on at a turn.
 pub(crate) fn seek(s: Shape, index: [u64; 7], start: usize) -> Sought
     requires { ⌜ Accepted s × (start < s .dims) ⌝ }
     requires { ⌜ ((k : ℕ) → getD index k 0 ≤ 4096) × Under s (suc start) (drop (suc start) index) ⌝ }
     ensures { λ r. ⌜ at (sizeAt s) (s .dims) start index ≡ cond (r .found) (r .index ∷ after (sizeAt s) (s .dims) (r .index)) [] ⌝ }
 {
+    let sizes = s.sizes;
+    let modifiers = s.modifiers;
     let mut v = index;
     let mut d = start;
     let n = s.dims;
     loop {
         let i = v[d];
-        let size = size_at(s, v, d);
+        let mut up = sizes[d];
+        let mut down: u64 = 0;
+        let mut k = 0;
+        while k < s.mods {
+            let m = modifiers[k];
+            let owner = m.owner;
+            let from = v[owner];
+            up += gain_from(m, Parameter::Size, Behaviour::Add, from, d);
+            down += gain_from(m, Parameter::Size, Behaviour::Subtract, from, d);
+            k += 1;
+        }
+        let size = less(up, down);
         if i < size {
             if d == 0 {
                 return Sought {

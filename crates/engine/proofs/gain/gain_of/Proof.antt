@@ -1,69 +1,20 @@
--- `gain::gain_of` meets its contract: a modifier of another parameter, dimension or behaviour moves nothing; else its owner's index stands at its place in the whole index vector.
-use native.Mathlib.Omega.{arith}
-use Prim.Native.Nat.{suc, _*_, _≤_}
-use mathlib.Core.Path.{_≡_, sym, _∙_}
-use mathlib.Core.Bool.{true}
-use lib.ListN.{getD, drop}
-use borrow.Author.Tests.{not-true, not-false}
-use Rattle.engine.specs.Loops.{sameParameter}
-use Rattle.engine.specs.Gains.{gainOf-off}
-use Rattle.engine.proofs.GainSteps.{gain-other, gain-elsewhere, gain-here, reach-small}
+-- `gain::gain_of` meets its contract: the owner's index is its place in the whole index vector.
+use mathlib.Core.Path.{refl}
 use borrow.Author.Needs.{needs}
 use Rattle.engine.proofs.gain.gain_of.Statement.{statement}
 use Rattle.engine.proofs.gain.gain_of.Tie as tie
 
-same-parameter-requires : tie.Need-same-parameter-requires
-same-parameter-requires c κs = search needs
+mul-gain-from : tie.Need-mul-gain-from
+mul-gain-from c = search needs
 
-same : (c : tie.Else1) → sameParameter (c .before .before .args .m .parameter) (c .before .before .args .q) ≡ true
-same c = sym (c .before .same-parameter .ensures) ∙ not-false (c .before .same-parameter .result) (c .if1 .left)
+array-read-gain-from : tie.Need-array-read-gain-from
+array-read-gain-from c = search needs
+
+gain-from-requires : tie.Need-gain-from-requires
+gain-from-requires c κs = (c .pre .0, c .pre .1 (c .args .m .owner))
 
 returns : tie.Need-returns
-returns c =
-    let a = c .before .before .args in (sym (gain-other (a .q) (a .b) (a .d) (drop (suc (a .d)) (a .t4)) (a .m) (sym (c .before .same-parameter .ensures) ∙ not-true (c .before .same-parameter .result) (c .if1 .taken))), omega arith)
-
-returns-2 : tie.Need-returns-2
-returns-2 c =
-    let a = c .before .before .before .before .args in (sym (gain-elsewhere (a .q) (a .b) (a .d) (drop (suc (a .d)) (a .t4)) (a .m) (same (c .before .before)) (λ e. omega arith)), omega arith)
-
-same-behaviour-requires : tie.Need-same-behaviour-requires
-same-behaviour-requires c κs = search needs
-
-returns-3 : tie.Need-returns-3
-returns-3 c =
-    let a = c .before .before .before .before .before .before .args in (sym (gainOf-off (a .q) (a .b) (a .d) (drop (suc (a .d)) (a .t4)) (a .m) (sym (c .before .same-behaviour .ensures) ∙ not-true (c .before .same-behaviour .result) (c .if3 .taken))), omega arith)
-
-mul-result : tie.Need-mul-result
-mul-result c = search needs
-
-array-read-result : tie.Need-array-read-result
-array-read-result c = search needs
-
-small : (c : tie.After-struct-known2)
-    → (getD (c .before .before .before .before .before .before .before .args .t4) (c .before .before .before .before .before .before .before .args .m .owner) 0
-    * c .before .before .before .before .before .before .before .args .m .displacement)
-    ≤ 4294967296
-small c =
-    let s = c .before .before .before .before .before .before .before in
-    reach-small (getD (s .args .t4) (s .args .m .owner) 0) (s .args .m .displacement) (s .pre .1 (s .args .m .owner)) (s .pre .0 .displaced)
-
-mul-result-2 : tie.Need-mul-result-2
-mul-result-2 c = omega (arith, small c)
-
-returns-4 : tie.Need-returns-4
-returns-4 c =
-    let s = c .before .before .before .before .before .before .before in let a = s .args in let h : a .m .target ≡ a .d = omega arith in (sym (gain-here (a .q) (a .b) (a .d) (a .t4) (a .m) (same (c .before .before .before .before .before)) h (sym (c .before .before .same-behaviour .ensures) ∙ not-false (c .before .before .same-behaviour .result) (c .before .if3 .left)) (s .pre .0 .below)), small c)
+returns c = (c .gain-from .ensures .0 (c .before .args .t4) refl, c .gain-from .ensures .1)
 
 pub gain-of-spec : {M : Type 1} → statement M
-gain-of-spec =
-    tie.close
-    (tie.spec
-    same-parameter-requires
-    returns
-    returns-2
-    same-behaviour-requires
-    returns-3
-    mul-result
-    array-read-result
-    mul-result-2
-    returns-4)
+gain-of-spec = tie.close (tie.spec mul-gain-from array-read-gain-from gain-from-requires returns)

@@ -6,7 +6,7 @@ use native.Mathlib.Nat.{add-zero, sub-zero}
 use lib.ListN.{length, length-set}
 use lib.Seq.{sets}
 use Rattle.engine.specs.Memory.{littleEndian}
-use Rattle.engine.proofs.ByteSteps.{byte-stored, none-to-store}
+use Rattle.engine.proofs.ByteSteps.{byte-stored, none-to-store, one-stored}
 use borrow.Author.Needs.{needs}
 use Rattle.engine.proofs.memory.store.Statement.{statement}
 use Rattle.engine.proofs.memory.store.Tie as tie
@@ -18,17 +18,31 @@ Inv-loop bytes₀ at width x n rest₀ k₀ bytes rest k =
 abbrev μ-loop : tie.MeasureT-loop
 μ-loop bytes₀ at width x n rest₀ k₀ bytes rest k = n - k
 
+cast-bytes : tie.Need-cast-bytes Inv-loop μ-loop
+cast-bytes c = omega arith
+
+slice-write-bytes : tie.Need-slice-write-bytes Inv-loop μ-loop
+slice-write-bytes c = omega (arith, c .if1 .taken)
+
+same-length : tie.Need-same-length Inv-loop μ-loop
+same-length c = search needs
+
+returns : tie.Need-returns Inv-loop μ-loop
+returns c =
+    let a = c .before .args in
+    sym (one-stored (a .bytes .now) (a .at) (a .width) (a .x) (c .if1 .taken))
+
 loop-holds : tie.Need-loop-holds Inv-loop μ-loop
 loop-holds c = (omega arith, refl, refl, rw (add-zero, sub-zero))
 
-cast-bytes : tie.Need-cast-bytes Inv-loop μ-loop
-cast-bytes c = omega arith
+cast-bytes-2 : tie.Need-cast-bytes-2 Inv-loop μ-loop
+cast-bytes-2 c = omega arith
 
 add-bytes : tie.Need-add-bytes Inv-loop μ-loop
 add-bytes c = omega arith
 
-slice-write-bytes : tie.Need-slice-write-bytes Inv-loop μ-loop
-slice-write-bytes c = omega arith
+slice-write-bytes-2 : tie.Need-slice-write-bytes-2 Inv-loop μ-loop
+slice-write-bytes-2 c = omega arith
 
 add-k : tie.Need-add-k Inv-loop μ-loop
 add-k c = omega arith
@@ -41,11 +55,11 @@ loop-again c =
     let l = c .before .loop in
     (omega arith, l .inv .1, simp length-set (l .inv .2), sym (byte-stored (l .bytes) _ (l .k) _ (l .rest) (omega arith)) ∙ l .inv .3)
 
-same-length : tie.Need-same-length Inv-loop μ-loop
-same-length c = search needs
+same-length-2 : tie.Need-same-length-2 Inv-loop μ-loop
+same-length-2 c = search needs
 
-returns : tie.Need-returns Inv-loop μ-loop
-returns c =
+returns-2 : tie.Need-returns-2 Inv-loop μ-loop
+returns-2 c =
     let l = c .before .loop in
     sym (none-to-store (l .bytes) _ _ (l .rest) (omega arith)) ∙ l .inv .3
 
@@ -55,12 +69,16 @@ store-spec =
     (tie.spec
     Inv-loop
     μ-loop
-    loop-holds
     cast-bytes
-    add-bytes
     slice-write-bytes
+    same-length
+    returns
+    loop-holds
+    cast-bytes-2
+    add-bytes
+    slice-write-bytes-2
     add-k
     loop-less
     loop-again
-    same-length
-    returns)
+    same-length-2
+    returns-2)
