@@ -8,6 +8,9 @@ use translator::nest::NestAnswer;
 use translator::nest::Stage;
 use translator::run::run_nest;
 
+// The bytes of a memory.
+const SIZE: usize = 16384;
+
 // How many rows there were, and how many were not as they must be.
 pub struct Tally {
     pub rows: u64,
@@ -30,11 +33,11 @@ struct Want {
 }
 
 // What one vector length shows: the visits of the plain loop, how the run ended, and the first byte at which memory is not as it must be,
-// 16,384 if there is none.
+// `SIZE` if there is none.
 struct Compared {
     visits: u64,
     ending: Ending,
-    byte: u64,
+    byte: usize,
 }
 
 // What a row shows: the visits, at how many lengths the run ended as it must, and how it ended at the last; at how many memory was as it
@@ -45,7 +48,7 @@ struct Shown {
     last: Ending,
     same: u64,
     length: u64,
-    byte: u64,
+    byte: usize,
 }
 
 // Fills a memory with bytes that do not repeat soon.
@@ -120,15 +123,15 @@ fn expected(nest: &[u8], vl: u64, refusal: u64, memory: &mut [u8]) -> u64 {
     if refusal != 14 {
         return 0;
     }
-    let mut other = [0u8; 16384];
+    let mut other = [0u8; SIZE];
     let tried = plain_loop(nest, &mut other, u64::MAX);
     let before = plain_loop(nest, memory, whole_chunks(nest, vl, tried.stop));
     before.visits
 }
 
 fn at_length(nest: &[u8], vl: u64, refusal: u64) -> Compared {
-    let mut memory = [0u8; 16384];
-    let mut plain = [0u8; 16384];
+    let mut memory = [0u8; SIZE];
+    let mut plain = [0u8; SIZE];
     fill(&mut memory);
     fill(&mut plain);
     let visits = expected(nest, vl, refusal, &mut plain);
@@ -136,7 +139,7 @@ fn at_length(nest: &[u8], vl: u64, refusal: u64) -> Compared {
     Compared {
         visits,
         ending,
-        byte: difference(&memory, &plain) as u64,
+        byte: difference(&memory, &plain),
     }
 }
 
@@ -148,7 +151,7 @@ fn with_length(mut s: Shown, vl: u64, c: Compared, want: Ending) -> Shown {
     if last.stage == want.stage && last.number == want.number && last.place == want.place {
         s.ended = std::num::wrapping_add_u64(s.ended, 1);
     }
-    if c.byte == 16384 {
+    if c.byte == SIZE {
         s.same = std::num::wrapping_add_u64(s.same, 1);
         return s;
     }
@@ -219,7 +222,7 @@ fn write_wrong(s: Shown) {
     write_with(b" lengths, at the last with ", last.number);
     write_with(b" at ", last.place);
     write_with(b"; memory differs first at length ", s.length);
-    write_with(b", byte ", s.byte);
+    write_with(b", byte ", s.byte as u64);
 }
 
 // Writes a row, and counts it.
@@ -241,7 +244,7 @@ fn row(mut t: Tally, name: &[u8], nest: &[u8], want: Want) -> Tally {
     t
 }
 
-// What the row of a line must show: by its kind, as the file crates/nests/stdin says.
+// What the row of a line must show, by the first letter of its kind; the file crates/nests/stdin tells the kinds. (`agree` is `differ` at 0.)
 fn want_of(line: Line) -> Want {
     let numbers = line.numbers;
     let a = numbers[0];

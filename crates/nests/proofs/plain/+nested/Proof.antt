@@ -1,4 +1,4 @@
-use native.Mathlib.Omega.{arith}
+-- `nested` is safe and ends: each call of itself has one loop fewer, and a loop ends with its count.
 use borrow.Author.Needs.{needs}
 use Prim.Native.Nat.{ℕ, _-_, _<_, _≤_}
 use mathlib.Core.Path.{_≡_}
