@@ -1,12 +1,17 @@
 //! Runs the built programs as people do, and compares what they write.
 //!
 //!     programs FOLDER        the folder that has them: target/bin
+//!
+//! What is held to the model: the sheets of `translate`, and the first line, the counts and the memory of `run`. The texts as a whole are
+//! held to the files of `expected/`, which were read by eye.
 
+use std::fs;
 use std::io::Write as _;
 use std::path::{Path, PathBuf};
 use std::process::{Command, ExitCode, Stdio};
 
-use tests::nest;
+use tests::report::report;
+use tests::{model, nest};
 
 /// What a program wrote to standard output and to standard error.
 struct Written {
@@ -14,10 +19,18 @@ struct Written {
     error: Vec<u8>,
 }
 
-fn run(program: &Path, arguments: &[&str], input: &[u8]) -> Result<Written, String> {
+/// Runs a program in a folder.
+fn run(program: &Path, folder: &Path, arguments: &[&str], input: &[u8]) -> Result<Written, String> {
     let said = |error| format!("{}: {error}", program.display());
-    let mut child =
-        Command::new(program).args(arguments).stdin(Stdio::piped()).stdout(Stdio::piped()).stderr(Stdio::piped()).spawn().map_err(said)?;
+    let mut child = Command::new(program)
+        .args(arguments)
+        .current_dir(folder)
+        .env("LC_ALL", "C")
+        .stdin(Stdio::piped())
+        .stdout(Stdio::piped())
+        .stderr(Stdio::piped())
+        .spawn()
+        .map_err(said)?;
     let mut pipe = child.stdin.take().expect("a pipe was asked for");
     // A program may end before it has read all.
     let _ = pipe.write_all(input);
@@ -26,61 +39,209 @@ fn run(program: &Path, arguments: &[&str], input: &[u8]) -> Result<Written, Stri
     Ok(Written { out: output.stdout, error: output.stderr })
 }
 
+/// The bytes of commented hexadecimal text.
+fn bytes_of(text: &str) -> Vec<u8> {
+    let digits: String = text.lines().map(|line| line.split('#').next().unwrap_or("")).collect::<String>().split_whitespace().collect();
+    let pairs = digits.as_bytes().chunks(2);
+    pairs.map(|pair| u8::from_str_radix(std::str::from_utf8(pair).expect("ASCII"), 16).expect("hexadecimal digits")).collect()
+}
+
+fn plural(n: u64, one: &str, more: &str) -> String {
+    format!("{n} {}", if n == 1 { one } else { more })
+}
+
 struct Tried {
+    programs: PathBuf,
     folder: PathBuf,
     cases: usize,
     failures: usize,
 }
 
 impl Tried {
-    /// One case: what the program writes must be exactly this.
-    fn expect(&mut self, program: &str, case: &str, arguments: &[&str], input: &[u8], out: &[u8], error: &[u8]) -> Result<(), String> {
-        let written = run(&self.folder.join(program), arguments, input)?;
+    fn path(&self, name: &str) -> PathBuf {
+        self.folder.join(name)
+    }
+
+    fn made(&self, name: &str, bytes: &[u8]) -> Result<(), String> {
+        fs::write(self.path(name), bytes).map_err(|error| format!("{name}: {error}"))
+    }
+
+    fn run(&self, program: &str, arguments: &[&str], input: &[u8]) -> Result<Written, String> {
+        run(&self.programs.join(program), &self.folder, arguments, input)
+    }
+
+    /// One case: what was found must be what was expected.
+    fn same(&mut self, case: &str, found: &[u8], expected: &[u8]) {
         self.cases += 1;
-        if written.out != out || written.error != error {
+        if found != expected {
             self.failures += 1;
-            println!("{program}, {case}: not as expected");
-            println!("  output   {:02x?}\n  expected {:02x?}", written.out, out);
-            println!("  error    {}", String::from_utf8_lossy(&written.error));
+            println!(
+                "{case}: not as expected\n  found    {:?}\n  expected {:?}",
+                found.escape_ascii().to_string(),
+                expected.escape_ascii().to_string()
+            );
         }
+    }
+
+    /// What a program writes to both outputs.
+    fn expect(&mut self, program: &str, arguments: &[&str], input: &[u8], out: &[u8], error: &str) -> Result<(), String> {
+        let written = self.run(program, arguments, input)?;
+        self.same(&format!("{program} {}", arguments.join(" ")), &written.out, out);
+        self.same(&format!("{program} {}, standard error", arguments.join(" ")), &written.error, error.as_bytes());
         Ok(())
     }
 
+    /// What a program writes to standard output is the text of a file in `expected/`.
+    fn expect_file(&mut self, program: &str, arguments: &[&str], input: &[u8], file: &str) -> Result<Vec<u8>, String> {
+        let path = Path::new("expected").join(file);
+        let text = fs::read(&path).map_err(|error| format!("{}: {error}", path.display()))?;
+        self.expect(program, arguments, input, &text, "")?;
+        Ok(text)
+    }
+
     /// The program `translate` on a nest: the sheet of the model's translator, or nothing.
-    fn translate(&mut self, case: &str, bytes: &[u8]) -> Result<(), String> {
+    fn translate(&mut self, bytes: &[u8]) -> Result<(), String> {
         let sheet = nest::read(bytes).map_or_else(|_| Vec::new(), |nest| nest.sheet());
-        self.expect("translate", case, &[], bytes, &sheet, b"")
+        self.expect("translate", &[], bytes, &sheet, "")
     }
 
     fn translations(&mut self) -> Result<(), String> {
         const ONE: [u8; 11] = [0x00, 0x01, 0x00, 0x01, 0x03, 0x00, 0x02, 0x08, 0x02, 0x10, 0x02];
-        self.translate("document 01's nest", &ONE)?;
-        self.translate("no byte", &[])?;
-        for cut in 1..ONE.len() {
-            self.translate(&format!("the first {cut} bytes"), &ONE[..cut])?;
+        for cut in 0..=ONE.len() {
+            self.translate(&ONE[..cut])?;
         }
         // The program's buffer has 257 bytes, and no nest is longer than 195.
         for length in [12, 195, 196, 255, 256, 257, 258, 4_096, 70_000] {
             let mut longer = ONE.to_vec();
             longer.resize(length, 0);
-            self.translate(&format!("a nest and zeros, {length} bytes"), &longer)?;
-            self.translate(&format!("{length} zeros"), &vec![0; length])?;
-            self.translate(&format!("{length} bytes of 255"), &vec![255; length])?;
+            self.translate(&longer)?;
+            self.translate(&vec![0; length])?;
+            self.translate(&vec![255; length])?;
         }
         Ok(())
+    }
+
+    /// An example: its listing, from a file and from standard input, and its run, with the memory that it leaves. Its comment says how the
+    /// run begins.
+    fn example(&mut self, name: &str, comment: &str, sheet: &[u8], vl: u64, image: &[u8]) -> Result<(), String> {
+        self.made("sheet", sheet)?;
+        self.made("image", image)?;
+        self.expect_file("listing", &["sheet"], b"", &format!("{name}.listing"))?;
+        self.expect_file("listing", &[], sheet, &format!("{name}.listing"))?;
+        let text = self.expect_file("run", &[&vl.to_string(), "sheet", "image", "after"], b"", &format!("{name}.run"))?;
+        let mut memory = image.to_vec();
+        let numbers = report(&model::run(sheet, vl, &mut memory));
+        let after = fs::read(self.path("after")).map_err(|error| format!("after: {error}"))?;
+        self.same(&format!("{name}: memory"), &after, &memory);
+        let text = String::from_utf8_lossy(&text).into_owned();
+        let first = if numbers[0] == 0 { "done".into() } else { format!("refused {} at {}", numbers[0], numbers[1]) };
+        self.same(&format!("{name}: first line"), text.lines().next().unwrap_or("").as_bytes(), first.as_bytes());
+        let counts = format!("{}, {}", plural(numbers[2], "pass", "passes"), plural(numbers[3], "calculation", "calculations"));
+        self.same(&format!("{name}: counts"), &[u8::from(text.lines().any(|line| line == counts))], &[1]);
+        let said = comment.lines().find_map(|line| line.strip_prefix("# First line: ")).unwrap_or("");
+        self.same(&format!("{name}: its comment"), said.as_bytes(), first.as_bytes());
+        let changed = memory.iter().zip(image).filter(|(now, before)| now != before).count();
+        let last = format!("{changed} of {} memory bytes changed", image.len());
+        self.same(&format!("{name}: last line"), text.lines().last().unwrap_or("").as_bytes(), last.as_bytes());
+        Ok(())
+    }
+
+    /// The examples of the repository. Each names in its comment the vector length of its run.
+    fn examples(&mut self) -> Result<(), String> {
+        let text = |name: &str| {
+            let path = format!("../examples/{name}.hex");
+            fs::read_to_string(&path).map_err(|error| format!("{path}: {error}"))
+        };
+        let image = bytes_of(&text("image")?);
+        for name in ["triangle", "coupled-triangle", "ragged-rows", "saxpy", "named-twice", "smoothing"] {
+            let text = text(name)?;
+            let command =
+                text.lines().find_map(|line| line.split("target/bin/run ").nth(1)).ok_or_else(|| format!("{name}: no command"))?;
+            let vl = command.split(' ').next().and_then(|word| word.parse().ok()).ok_or_else(|| format!("{name}: no vector length"))?;
+            let mut sheet = bytes_of(&text);
+            if name == "smoothing" {
+                self.translate(&sheet)?;
+                sheet = nest::read(&sheet).map_err(|_| "smoothing: refused")?.sheet();
+            }
+            self.example(name, &text, &sheet, vl, &image)?;
+        }
+        Ok(())
+    }
+
+    /// A sheet that is refused before it runs is listed up to there.
+    fn refused_sheets(&mut self) -> Result<(), String> {
+        let sheet = bytes_of("01 8B 81 01 00  02 01 00 04 02  02 01 00 06 02  03 01 00 00 01 01  04 01  05 01 01  00 02 01 01");
+        self.expect_file("listing", &[], &sheet, "low-below-0.listing")?;
+        self.expect_file("listing", &[], &sheet[..12], "cut-off.listing")?;
+        self.expect_file("listing", &[], &bytes_of("01 8B 81 01 00  06"), "unknown.listing")?;
+        self.expect_file("listing", &[], b"", "empty.listing")?;
+        Ok(())
+    }
+
+    /// Wrong arguments, files that cannot be read, lengths that are not allowed, help.
+    fn wrong_use(&mut self) -> Result<(), String> {
+        const RUN: &str = "usage: run VECTOR-LENGTH SHEET MEMORY [OUT]\n";
+        const LISTING: &str = "usage: listing [SHEET]\n";
+        self.made("sheet", &bytes_of("01 8B 81 01 00"))?;
+        self.made("empty", b"")?;
+        self.made("long", &[0; 65_537])?;
+        fs::create_dir_all(self.path("folder")).map_err(|error| format!("folder: {error}"))?;
+        let few = format!("run takes a vector length, a sheet and a memory\n{RUN}");
+        self.expect("run", &[], b"", b"", &few)?;
+        self.expect("run", &["8", "sheet"], b"", b"", &few)?;
+        self.expect("run", &["8", "sheet", "empty", "after", "more"], b"", b"", &format!("run takes no more than four arguments\n{RUN}"))?;
+        for word in ["", "x", "8x", "-8"] {
+            self.expect("run", &[word, "sheet", "empty"], b"", b"", &format!("the vector length is no number\n{RUN}"))?;
+        }
+        for (program, usage, before, behind) in
+            [("run", RUN, &["8"][..], &["empty"][..]), ("run", RUN, &["8", "sheet"], &[]), ("listing", LISTING, &[], &[])]
+        {
+            for (name, why) in [("missing", "No such file or directory"), ("folder", "Is a directory")] {
+                let arguments = [before, &[name], behind].concat();
+                self.expect(program, &arguments, b"", b"", &format!("{name}: {why}\n{usage}"))?;
+            }
+        }
+        self.expect("run", &["8", "long", "empty"], b"", b"", "the sheet has more than 65,536 bytes\n")?;
+        self.expect("listing", &["long"], b"", b"", "the sheet has more than 65,536 bytes\n")?;
+        self.expect("listing", &["sheet", "empty"], b"", b"", &format!("listing takes one sheet\n{LISTING}"))?;
+        self.expect("translate", &["sheet"], b"", b"", "translate takes no arguments\nusage: translate < NEST > SHEET\n")?;
+        self.expect_file("run", &["8", "empty", "empty"], b"", "empty.run")?;
+        self.expect_file("run", &["8", "sheet", "long"], b"", "long-memory.run")?;
+        self.expect_file("run", &["12", "sheet", "empty"], b"", "length-12.run")?;
+        self.expect_file("run", &["18446744073709551624", "sheet", "empty"], b"", "length-12.run")?;
+        let written = self.run("run", &["8", "empty", "empty", "missing/after"], b"")?;
+        self.same("run, an OUT that cannot be made", &written.error, b"missing/after: No such file or directory\n");
+        for program in ["run", "listing", "translate"] {
+            self.expect_file(program, &["--help"], b"", &format!("{program}.help"))?;
+        }
+        Ok(())
+    }
+
+    fn all(&mut self) -> Result<(), String> {
+        self.translations()?;
+        self.examples()?;
+        self.refused_sheets()?;
+        self.wrong_use()
     }
 }
 
 fn main() -> ExitCode {
-    let Some(folder) = std::env::args().nth(1) else {
+    let Some(Ok(programs)) = std::env::args().nth(1).map(fs::canonicalize) else {
         eprintln!("programs: name the folder that has the programs");
         return ExitCode::from(2);
     };
-    let mut tried = Tried { folder: folder.into(), cases: 0, failures: 0 };
-    if let Err(error) = tried.translations() {
+    let folder = std::env::temp_dir().join(format!("programs-{}", std::process::id()));
+    if let Err(error) = fs::create_dir_all(&folder) {
+        eprintln!("programs: {}: {error}", folder.display());
+        return ExitCode::from(2);
+    }
+    let mut tried = Tried { programs, folder, cases: 0, failures: 0 };
+    let ended = tried.all();
+    let _ = fs::remove_dir_all(&tried.folder);
+    if let Err(error) = ended {
         eprintln!("programs: {error}");
         return ExitCode::from(2);
     }
-    println!("programs: {} of {} cases as expected", tried.cases - tried.failures, tried.cases);
+    println!("programs: {} of {} comparisons as expected", tried.cases - tried.failures, tried.cases);
     ExitCode::from(u8::from(tried.failures > 0))
 }
