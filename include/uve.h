@@ -3,8 +3,8 @@
  * A buffer is a pointer and a length in bytes. The buffers of a call must not overlap. A buffer of length 0 may have any pointer, NULL
  * too. No call reads or writes outside its buffers, or reads what a report held before.
  *
- * No state is kept between calls, so calls from several threads are safe, each on buffers of its own. There is no heap. A call needs
- * less than 120,000 bytes of stack (117,592 were measured on x86-64), which a thread of 128 KiB has.
+ * No state is kept between calls, so calls from several threads are safe, each on buffers of its own. There is no heap. Give a thread
+ * that calls 512 KiB of stack: 201,992 bytes were touched at most, measured on x86-64; no theorem bounds it.
  *
  * A report receives numbers of 64 bits each, lowest byte first.
  */
