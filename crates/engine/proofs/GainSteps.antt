@@ -8,7 +8,7 @@ use native.Mathlib.Numerals.{add-one}
 use native.Mathlib.Nat.{mul-le-mul}
 use lib.ListN.{length, getD, take, drop}
 use lib.Seq.{take-suc, getD-drop}
-use borrow.Author.Tests.{eq-eqb, ne-eqb}
+use borrow.Author.Tests.{eq-eqb}
 use lib.IntN.{ℤ, subℕ}
 use Rattle.codec.specs.declared.operation.Parameter.{Parameter}
 use Rattle.codec.specs.declared.operation.Behaviour.{Behaviour}
@@ -23,10 +23,6 @@ module _ (q : Parameter) (b : Behaviour) (d : ℕ) (outer : List ℕ) (m : Modif
   pub gain-other : sameParameter (m .parameter) q ≡ false → gainOf q b d outer m ≡ 0
   unfolding gainOf
   gain-other e = rw e
-
-  pub gain-elsewhere : sameParameter (m .parameter) q ≡ true → (m .target ≡ d → ⊥) → gainOf q b d outer m ≡ 0
-  unfolding gainOf
-  gain-elsewhere e n = rw (e, ne-eqb (m .target) d n)
 
 -- the owner's index among the outer ones is its index in the whole vector
 pub gain-here : (q : Parameter) (b : Behaviour) (d : ℕ) (v : List ℕ) (m : Modifier) → sameParameter (m .parameter) q ≡ true → m .target ≡ d

@@ -1,23 +1,30 @@
 mod Exact
 mod GainSteps
+mod GainRows
+mod RowReads
 mod Turns
 mod Found
 mod Rows
 mod RowSteps
 mod Lasts
 mod Moves
-mod Measure
 mod Lengths
 mod Cuts
 mod ByteSteps
 mod PlaceSteps
 mod LaneSteps
+mod StretchSteps
 mod LaneCounts
 mod Ordered
 mod BodySteps
 mod SheetSteps
 mod PassSteps
 mod WholeSteps
+mod LayoutSteps
 pub mod Promise2
 pub mod Unrefused
 pub mod Promise1
+pub mod Looking
+pub mod Carrying
+pub mod Clearing
+pub mod Rounds

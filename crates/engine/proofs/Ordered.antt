@@ -23,14 +23,13 @@ use Rattle.engine.specs.EffectLaws.{open-store, given-fits, lanewise-len
 use Rattle.engine.specs.Registers.{isOpen, openLoad, openStore, shapeOf, nextChunk}
 use Rattle.engine.specs.Good.{Good}
 use Rattle.engine.specs.GoodLaws.{next, width-some}
-use Rattle.engine.specs.Plans.{allWithin, storedAt}
+use Rattle.engine.specs.Stretches.{allWithin, storedAt}
 use Rattle.engine.proofs.LaneCounts.{few-lanes}
-use Rattle.engine.specs.Operands.{Operates, resultsOn, whyOn, Calculated, Fitting, lanesOut, CarriedOut}
+use Rattle.engine.specs.Operands.{Operand, Operates, resultsOn, whyOn, Calculated, lanesOut, CarriedOut}
 use Rattle.engine.specs.OperandLaws.{source-count, source-outside, source-lanes, source-after, target-count, target-outside, target-after, target-memory}
 use Rattle.engine.specs.declared.check.Why.{Why}
 use Rattle.engine.specs.declared.check.Why.the-variants.{Nothing, Because}
 use Rattle.engine.specs.declared.register.Register.{Register}
-use Rattle.engine.specs.declared.operand.Operand.{Operand}
 
 abbrev pub states : Register → Register → Register → List Check
 states a b d = sourceChecks a ++ sourceChecks b ++ destinationChecks d
@@ -46,7 +45,7 @@ abbrev pub counts : Operand → Operand → Operand → Bool
 counts x y z = not (eqb (x .count) (y .count)) || z .live && ltb (z .count) (x .count)
 
 abbrev pub beyond : ℕ → Register → Operand → Bool
-beyond len r o = o .live && not (allWithin len (r .width) (take (o .count) (o .addresses)))
+beyond len r o = o .live && not (allWithin len (r .width) (o .addresses))
 
 module _ (vl : ℕ) (memory : List ℕ) (a b d : Register) where
   -- the states refuse
@@ -103,7 +102,7 @@ module _ (vl : ℕ) (memory : List ℕ) (a b d : Register) (ga : Good vl a) (gb 
   store-width t = sym (eqb-true _ _ (not-false _ (and-false _ _ (or-false (not (eqb (a .width) (b .width))) _ w .1) (store ∙ t))))
 
   -- there are no more lanes than the vector length has room for
-  fits : x .count * a .width ≤ vl
+  pub fits : x .count * a .width ≤ vl
   fits = rw first-count (given-fits vl memory a ga)
 
   room : isOpen (d .state) ≡ true → x .count ≤ vl / d .width
@@ -121,81 +120,32 @@ module _ (vl : ℕ) (memory : List ℕ) (a b d : Register) (ga : Good vl a) (gb 
       states-pass vl memory a b d e
       ∙ (λ i. firstOf (after (w i) (sym l i) (sym (source-outside vl memory a x hx (length memory)) i) (sym (source-outside vl memory b y hy (length memory)) i) (sym o i)))
 
-  -- of an operand that is a source the lanes counted are the lanes given
-  source-cond : (r : Register) (o : Operand) → Operates r (vl / r .width) (r .valid) o → cond (o .live) (o .count) (r .valid) ≡ o .count
-  source-cond r o h = go (isOpen (r .state)) refl
-    where
-      go : (t : Bool) → isOpen (r .state) ≡ t → cond (o .live) (o .count) (r .valid) ≡ o .count
-      go true f = rw (h .told ∙ f)
-      go false f = rw (h .told ∙ f) (sym (rw f at (h .counted)))
+-- a calculation that no check refuses
+module _ (vl : ℕ) (memory : List ℕ) (a b d : Register) (ga : Good vl a) (x y z : Operand)
+    (hx : Operates a (vl / a .width) (a .valid) x) (hy : Operates b (vl / b .width) (b .valid) y) (hz : Operates d (x .count) (x .count) z)
+    (widths : isOpen (d .state) ≡ true → d .width ≡ a .width) (same : x .count ≡ y .count) (full : isOpen (d .state) ≡ true → z .count ≡ x .count) (nothing : whyOn vl memory a b d ≡ Nothing) where
+  enough : isOpen (d .state) ≡ true → x .count ≤ vl / d .width
+  enough t =
+      rw (widths t) (le-div-iff-mul-le {k = a .width} (width-some (a .width) (ga .width)) .1 (rw (source-count vl memory a x hx) (given-fits vl memory a ga)))
 
-  -- what is left once no check applies
-  module _ (vl64 : vl ≤ 64) (gd : Good vl d) (l : counts x y z ≡ false) (ox : beyond (length memory) a x ≡ false) (oy : beyond (length memory) b y ≡ false) (oz : beyond (length memory) d z ≡ false) where
-    same-counts : x .count ≡ y .count
-    same-counts = eqb-true _ _ (not-false _ (or-false _ _ l .0))
+  results-long : (action : Action) → length (resultsOn vl action memory a b) ≡ x .count
+  results-long action =
+      let p = source-count vl memory a x hx in
+      lanewise-length _ (given vl memory a) (given vl memory b) (sym p ∙ same ∙ source-count vl memory b y hy) ∙ sym p
 
-    pub store-room : isOpen (d .state) ≡ true → z .count ≡ x .count
-    store-room t =
-        let p : x .count ≤ z .count = ltb-false (z .count) (x .count) (and-false _ _ (or-false (not (eqb (x .count) (y .count))) _ l .1) (hz .told ∙ t)) in
-        let q : z .count ≤ x .count = rw (rw t at (hz .counted)) (chunk-lanes (groupsOf (shapeOf d)) (x .count) (d .moved)) in
-        omega arith
-
-    inside-all : (r : Register) (o : Operand) → beyond (length memory) r o ≡ false → o .live ≡ true → allWithin (length memory) (r .width) (take (o .count) (o .addresses)) ≡ true
-    inside-all r o f t = not-false _ (and-false _ _ f t)
-
-    live-open : z .live ≡ true → isOpen (d .state) ≡ true
-    live-open t = sym (hz .told) ∙ t
-
-    pub fitting : Fitting (length memory) a b d x y z
-    fitting = record {
-      first = ga .width;
-      second = one-width;
-      destination = λ t. store-width (live-open t);
-      third = gd .width;
-      counts = (rw (source-cond a x hx) (omega (arith, fits)), source-cond b y hy ∙ sym same-counts ∙ sym (source-cond a x hx));
-      plain = (omega (arith, ga .valid), omega (arith, gb .valid));
-      few = (few-lanes _ _ (width-some (a .width) (ga .width)) (omega (arith, fits)), few-lanes _ _ (width-some (a .width) (ga .width)) (rw same-counts at (omega-fits)));
-      room = λ t. store-room (live-open t) ∙ sym (source-cond a x hx);
-      insideFirst = inside-all a x ox;
-      insideSecond = inside-all b y oy;
-      insideThird = inside-all d z oz;
-    }
-      where
-        omega-fits : x .count * a .width ≤ 64
-        omega-fits = omega (arith, fits)
-
-    pub nothing : whyOn vl memory a b d ≡ Nothing
-    unfolding firstOf
-    nothing = flags ∙ rw (l, ox, oy, oz)
-
-    results-long : (action : Action) → length (resultsOn vl action memory a b) ≡ x .count
-    results-long action = lanewise-length _ (given vl memory a) (given vl memory b) (sym first-count ∙ same-counts ∙ second-count) ∙ sym first-count
-
-    pub carried : (action : Action) (why : Why) (r1 r2 r3 : Register) (m : List ℕ) → CarriedOut action memory a b d x y z why r1 r2 r3 m → Calculated vl action memory a b d why r1 r2 r3 m
-    carried action why r1 r2 r3 m c =
-        let p = source-lanes vl memory a x hx in
-        let q = source-lanes vl memory b y hy in
-        let o : lanesOut action memory a b x y ≡ resultsOn vl action memory a b = ap₂ (lanewise (lane action (8 * a .width))) p q in
-        let t : isOpen (d .state) ≡ true → z .count ≡ x .count = store-room in
-        let i = resultsOn vl action memory a b in
-        record {
-          refused = c .done ∙ sym nothing;
-          read = rw nothing (c .read ∙ ap (λ xs. cond (x .live) (holding (a .width) xs (x .after)) a) p ∙ source-after vl memory a x hx);
-          other = rw nothing (c .other ∙ ap (λ xs. cond (y .live) (holding (b .width) xs (y .after)) b) q ∙ source-after vl memory b y hy);
-          written = rw nothing (c .written ∙ ap (λ xs. cond (z .live) (z .after) (holding (a .width) xs d)) o ∙ target-after vl (x .count) d z hz room i (results-long action) t (a .width));
-          stored = rw nothing (c .stored ∙ ap (λ xs. cond (z .live) (storedAt memory (d .width) (take (z .count) (z .addresses)) xs) memory) o ∙ target-memory vl (x .count) d z hz room i (results-long action) t memory);
-        }
-
--- a refused calculation leaves the registers and the memory as they were
-pub turned-down : (vl : ℕ) (action : Action) (memory : List ℕ) (a b d : Register) (w : Why) (x : Refusal) (r1 r2 r3 : Register) → whyOn vl memory a b d ≡ w → w ≡ Because x
-    → r1 ≡ a → r2 ≡ b → r3 ≡ d → Calculated vl action memory a b d w r1 r2 r3 memory
-turned-down vl action memory a b d w x r1 r2 r3 e f p q s = record {
-  refused = sym e;
-  read = rw (e ∙ f) p;
-  other = rw (e ∙ f) q;
-  written = rw (e ∙ f) s;
-  stored = rw (e ∙ f);
-}
+  pub carried : (action : Action) (why : Why) (r1 r2 r3 : Register) (m : List ℕ) → CarriedOut action memory a b d x y z why r1 r2 r3 m → Calculated vl action memory a b d why r1 r2 r3 m
+  carried action why r1 r2 r3 m c =
+      let p = source-lanes vl memory a x hx in
+      let q = source-lanes vl memory b y hy in
+      let o : lanesOut action memory a b x y ≡ resultsOn vl action memory a b = ap₂ (lanewise (lane action (8 * a .width))) p q in
+      let i = resultsOn vl action memory a b in
+      record {
+        refused = c .done ∙ sym nothing;
+        read = λ n. (c .read ∙ ap (λ xs. cond (x .live) (holding (a .width) xs (x .after)) a) p ∙ source-after vl memory a x hx);
+        other = λ n. (c .other ∙ ap (λ xs. cond (y .live) (holding (b .width) xs (y .after)) b) q ∙ source-after vl memory b y hy);
+        written = λ n. (c .written ∙ ap (λ xs. cond (z .live) (z .after) (holding (a .width) xs d)) o ∙ target-after vl (x .count) d z hz enough i (results-long action) full (a .width));
+        stored = rw nothing (c .stored ∙ ap (λ xs. cond (z .live) (storedAt memory (d .width) (z .addresses) xs) memory) o ∙ target-memory vl (x .count) d z hz enough i (results-long action) full memory);
+      }
 
 -- a source has at most 64 lanes, and a destination no more than are asked for
 pub source-few : (vl : ℕ) (memory : List ℕ) (r : Register) (o : Operand) → vl ≤ 64 → Good vl r → Operates r (vl / r .width) (r .valid) o → o .count ≤ 64

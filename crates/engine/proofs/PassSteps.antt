@@ -61,9 +61,9 @@ module _ (vl : ℕ) (c : Placed) (rs : List Register) (memory : List ℕ) (p q :
       let z = reg (machineOf rs) (c .calculation .destination) in
       let w : whyOn vl memory a b z ≡ Nothing = sym (h .refused) ∙ e in
       let xs = resultsOn vl (c .calculation .action) memory a b in
-      let k1 : readFrom vl memory a ≡ f = sym (h .read ∙ ap (λ y. unlessBecause y (readFrom vl memory a) a) w) in
-      let k2 : readFrom vl memory b ≡ s = sym (h .other ∙ ap (λ y. unlessBecause y (readFrom vl memory b) b) w) in
-      let k3 : writtenTo (a .width) xs z ≡ d = sym (h .written ∙ ap (λ y. unlessBecause y (writtenTo (a .width) xs z) z) w) in
+      let k1 : readFrom vl memory a ≡ f = sym (h .read e) in
+      let k2 : readFrom vl memory b ≡ s = sym (h .other e) in
+      let k3 : writtenTo (a .width) xs z ≡ d = sym (h .written e) in
       let k4 : memoryAfter vl xs memory z ≡ after = sym (h .stored ∙ ap (λ y. unlessBecause y (memoryAfter vl xs memory z) memory) w) in
       step-done vl c (soFar rs memory p q) (why-is ∙ e)
       ∙ (λ t. soFar (set (set (set rs (c .calculation .first) (k1 t)) (c .calculation .second) (k2 t)) (c .calculation .destination) (k3 t)) (k4 t) p (q + 1))

@@ -16,10 +16,9 @@ use Rattle.engine.specs.Registers.{indexOf}
 use Rattle.engine.specs.Good.{RangedPattern, Accepted}
 use Rattle.engine.specs.Walk.{Element}
 use Rattle.engine.specs.IndexLaws.{roomy, index-length, element-small}
-use Rattle.engine.specs.Places.{placeAt, inRow, alongOf, Onward}
+use Rattle.engine.specs.Places.{Place, placeAt, inRow, alongOf, Onward}
 use Rattle.engine.proofs.Rows.{along-place, row-next, height-next, row-height}
 use Rattle.engine.specs.declared.stream.Pattern.{Pattern}
-use Rattle.engine.specs.declared.place.Place.{Place}
 
 -- where a row has another element, the walk goes on there
 pub row-onward : (p : Pattern) (width : ℕ) → Accepted (p .shape) → (here : Place) (k : ℕ) → k < length (elements (p .shape))

@@ -6,6 +6,7 @@
 --   bytes-most                a stride in bytes
 --   address-most              an address over the first n dimensions stays within 2^20 + n x 2^52
 --   address-fits              so that of an element stays within 2^55
+--   mul-add-right             an integer times a sum
 --   bytes-next, address-next  the next element of a row lies one stride further
 use Prim.Native.Nat.{ℕ, zero, suc, _+_, _-_, _*_, _^_, _≤_, _<_}
 use mathlib.Core.Path.{_≡_, refl, sym, _∙_, ap}
@@ -126,7 +127,7 @@ address-fits p r width w v h = omega (arith, address-most p r width w v h (p .sh
 -- ---- the next in a row
 
 -- an integer times a sum is the sum of both products
-mul-add-right : (z : ℤ) (a b : ℕ) → z *ℤ pos (a + b) ≡ z *ℤ pos a +ℤ z *ℤ pos b
+pub mul-add-right : (z : ℤ) (a b : ℕ) → z *ℤ pos (a + b) ≡ z *ℤ pos a +ℤ z *ℤ pos b
 mul-add-right (pos n) a b = ap pos (mul-add n a b)
 mul-add-right (negsuc n) a b = ap (λ k. negℤ (pos k)) (mul-add (suc n) a b) ∙ negℤ-+ℤ (pos (suc n * a)) (pos (suc n * b))
 

@@ -9,7 +9,7 @@
 --                                      a good register after an operation
 --   in-machine, put-same, put-other, put-good   a register put back
 --   configured-put, configured-by, configured-own, configured-other, configured-good   the machine after an operation
---   width-most, ready     what the code takes for granted
+--   width-most            what the code takes for granted
 use Prim.Native.Nat.{ℕ, zero, suc, _+_, _^_, _≤_, _<_}
 use mathlib.Core.Path.{_≡_, refl, sym, _∙_, ap, subst}
 use mathlib.Core.Logic.{_≢_, ⊎-elim}
@@ -47,7 +47,6 @@ use Rattle.engine.specs.Checks.{Check, _if_, firstOf}
 use Rattle.engine.specs.Registers.{isConfiguring, isOpen, isFinished, noModifier, noShape, noPattern, fresh, noRegister, shapeOf, movedTo, movedBy, freshMachine, reg, put}
 use Rattle.engine.specs.Configure.{dimensionChecks, modifierChecks, uncovered, endChecks, opened, patterned, dimensioned, owned, modified, ended, registerOf, checksFor, applied, unlessBecause, whyNot, configured}
 use Rattle.engine.specs.Good.{RangedModifier, Ranged, RangedPattern, Accepted, IsWidth, Standing, Good, AllGood}
-use Rattle.engine.specs.Places.{Ready}
 use Rattle.engine.specs.IndexLaws.{index-length}
 use Rattle.engine.specs.declared.stream.Modifier.{Modifier}
 use Rattle.engine.specs.declared.stream.Shape.{Shape}
@@ -460,17 +459,6 @@ configured-good vl o m a e = go (firstOf (checksFor o (reg m (registerOf o)))) r
 -- a width is at most 8
 pub width-most : (w : ℕ) → IsWidth w → w ≤ 8
 width-most w h = let q : 2 ^ h .0 ≤ 2 ^ 3 = pow-mono (h .1) in omega (arith, h .2)
-
--- an open stream is ready for its next chunk
-pub ready : (vl : ℕ) (r : Register) → Good vl r → isOpen (r .state) ≡ true → Ready r
-ready vl r g e = record {
-  pattern = g .pattern;
-  width = width-most (r .width) (g .width);
-  accepted = g .opened e .0 .accepted;
-  some = g .opened e .1;
-  index = g .opened e .0 .index;
-  height = g .opened e .0 .height;
-}
 
 -- a width is at least one byte
 pub width-some : (w : ℕ) → IsWidth w → 1 ≤ w

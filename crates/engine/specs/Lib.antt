@@ -34,7 +34,6 @@ pub mod CheckLaws
 pub mod LaneLaws
 pub mod SignedLaws
 pub mod ByteLaws
-pub mod Plans
 pub mod Operands
 pub mod OperandLaws
 pub mod GoodLaws
@@ -76,3 +75,11 @@ pub mod InOrderLaws
 pub mod Table
 pub mod Outlines
 pub mod OutlineLaws
+pub mod Rows
+pub mod RowLaws
+pub mod Stretches
+pub mod Runnings
+pub mod Calculations
+pub mod Layouts
+pub mod LayoutLaws
+pub mod PackedLaws

@@ -16,12 +16,11 @@ use Rattle.engine.specs.ChunkLaws.{take-of-chunk}
 use Rattle.engine.specs.Memory.{fetch, stored, contents, holding}
 use Rattle.engine.specs.Calculate.{given, outside, readFrom, writtenTo, memoryAfter}
 use Rattle.engine.specs.Registers.{isOpen, shapeOf, nextChunk, movedBy}
-use Rattle.engine.specs.Plans.{allWithin, storedAt, within-elements, fetched-elements, stored-elements}
+use Rattle.engine.specs.Stretches.{allWithin, storedAt, within-elements, fetched-elements, stored-elements}
 use Rattle.engine.specs.EffectLaws.{length-lanes}
-use Rattle.engine.specs.Operands.{Operates, lanesOf}
+use Rattle.engine.specs.Operands.{Operand, Operates, lanesOf}
 use Rattle.engine.specs.declared.stream.Pattern.{Pattern}
 use Rattle.engine.specs.declared.register.Register.{Register}
-use Rattle.engine.specs.declared.operand.Operand.{Operand}
 
 -- how many lanes a source gives
 pub given-length : (vl : ℕ) (memory : List ℕ) (r : Register) → length (given vl memory r) ≡ cond (isOpen (r .state)) (length (nextChunk vl r)) (r .valid)
@@ -39,11 +38,11 @@ module _ (vl : ℕ) (memory : List ℕ) (r : Register) (o : Operand) (h : Operat
   source-count = h .counted ∙ sym (given-length vl memory r)
 
   -- an element of it outside memory
-  pub source-outside : (len : ℕ) → (o .live && not (allWithin len (r .width) (take (o .count) (o .addresses)))) ≡ outside len r (nextChunk vl r)
+  pub source-outside : (len : ℕ) → (o .live && not (allWithin len (r .width) (o .addresses))) ≡ outside len r (nextChunk vl r)
   unfolding nextChunk
   source-outside len = go (isOpen (r .state)) refl
     where
-      go : (b : Bool) → isOpen (r .state) ≡ b → (o .live && not (allWithin len (r .width) (take (o .count) (o .addresses)))) ≡ outside len r (nextChunk vl r)
+      go : (b : Bool) → isOpen (r .state) ≡ b → (o .live && not (allWithin len (r .width) (o .addresses))) ≡ outside len r (nextChunk vl r)
       go true e = rw (h .told ∙ e, e, h .addressed e, within-elements len (r .width) (r .pattern) (chunk (shapeOf r) (vl / r .width) (r .moved)))
       go false e = rw (h .told ∙ e, e)
 
@@ -101,10 +100,10 @@ module _ (vl n : ℕ) (d : Register) (o : Operand) (h : Operates d n n o) (l : i
       go false e = rw (h .told ∙ e, e)
 
   -- an element that it would write lies outside memory
-  pub target-outside : (len : ℕ) → (o .live && not (allWithin len (d .width) (take (o .count) (o .addresses)))) ≡ outside len d (take n (nextChunk vl d))
+  pub target-outside : (len : ℕ) → (o .live && not (allWithin len (d .width) (o .addresses))) ≡ outside len d (take n (nextChunk vl d))
   target-outside len = go (isOpen (d .state)) refl
     where
-      go : (b : Bool) → isOpen (d .state) ≡ b → (o .live && not (allWithin len (d .width) (take (o .count) (o .addresses)))) ≡ outside len d (take n (nextChunk vl d))
+      go : (b : Bool) → isOpen (d .state) ≡ b → (o .live && not (allWithin len (d .width) (o .addresses))) ≡ outside len d (take n (nextChunk vl d))
       go true e = rw (h .told ∙ e, e, h .addressed e, front e, within-elements len (d .width) (d .pattern) (chunk (shapeOf d) n (d .moved)))
       go false e = rw (h .told ∙ e, e)
 
@@ -119,11 +118,11 @@ module _ (vl n : ℕ) (d : Register) (o : Operand) (h : Operates d n n o) (l : i
         go false e = rw (h .told ∙ e, e)
 
     -- memory after it
-    pub target-memory : (memory : List ℕ) → cond (o .live) (storedAt memory (d .width) (take (o .count) (o .addresses)) xs) memory ≡ memoryAfter vl xs memory d
+    pub target-memory : (memory : List ℕ) → cond (o .live) (storedAt memory (d .width) (o .addresses) xs) memory ≡ memoryAfter vl xs memory d
     unfolding memoryAfter
     target-memory memory = go (isOpen (d .state)) refl
       where
-        go : (b : Bool) → isOpen (d .state) ≡ b → cond (o .live) (storedAt memory (d .width) (take (o .count) (o .addresses)) xs) memory ≡ memoryAfter vl xs memory d
+        go : (b : Bool) → isOpen (d .state) ≡ b → cond (o .live) (storedAt memory (d .width) (o .addresses) xs) memory ≡ memoryAfter vl xs memory d
         go true e =
             rw (h .told ∙ e, e, h .addressed e)
             (stored-elements memory (d .width) (d .pattern) (chunk (shapeOf d) n (d .moved)) xs

@@ -19,7 +19,7 @@ use Rattle.codec.specs.declared.amounts.Bytes.{Bytes}
 use Rattle.engine.specs.Loops.{sizeAt, added, span, loops, elements}
 use Rattle.engine.specs.Rules.{only, highs, lowOrHighFrom, product}
 use Rattle.engine.specs.Addresses.{noBytes, addressUpTo, address}
-use Rattle.engine.specs.Places.{addressesOf}
+use Rattle.engine.specs.Stretches.{addressesOf}
 use Rattle.engine.specs.Checks.{firstOf}
 use Rattle.engine.specs.Registers.{isOpen, isFinished, movedBy}
 use Rattle.engine.specs.Configure.{whyNot, configured}
@@ -41,12 +41,12 @@ module _ (p : Pattern) (width : ℕ) where
   -- past the last element the address is 0
   address-none : (k : ℕ) → length (elements (p .shape)) ≤ k → addressAt p width k ≡ noBytes
   address-none k h =
-      List·getD-eq-default (addressesOf p width (elements (p .shape))) noBytes
-      (omega (arith, length-map {B = Bytes} (elements (p .shape)) (λ v. record { 0 = address p width v })))
+      ap (λ z. record { 0 = z })
+      (List·getD-eq-default (addressesOf p width (elements (p .shape))) (pos 0) (omega (arith, length-map (elements (p .shape)) (address p width))))
 
   -- at a position the address of the element there
   address-some : (k : ℕ) → k < length (elements (p .shape)) → addressAt p width k ≡ record { 0 = address p width (getD (elements (p .shape)) k []) }
-  address-some k h = getD-map (λ v. record { 0 = address p width v }) (elements (p .shape)) k [] noBytes h
+  address-some k h = ap (λ z. record { 0 = z }) (getD-map (address p width) (elements (p .shape)) k [] (pos 0) h)
 
   -- of no element
   pub extent-none : length (elements (p .shape)) ≡ 0 → extentOf p width ≡ extent (p .shape .dims) (p .shape .mods) 0 noBytes noBytes

@@ -6,10 +6,10 @@
 use Prim.Native.Nat.{ℕ, _-_}
 use mathlib.Core.Bool.{cond, _||_}
 use lib.ListN.{length, getD}
+use lib.IntN.{pos}
 use Rattle.codec.specs.declared.amounts.Bytes.{Bytes}
 use Rattle.engine.specs.Loops.{elements}
-use Rattle.engine.specs.Addresses.{noBytes}
-use Rattle.engine.specs.Places.{addressesOf}
+use Rattle.engine.specs.Stretches.{addressesOf}
 use Rattle.engine.specs.Registers.{isOpen, isFinished}
 use Rattle.engine.specs.declared.stream.Pattern.{Pattern}
 use Rattle.engine.specs.declared.register.Register.{Register}
@@ -19,7 +19,7 @@ use Rattle.engine.specs.declared.outline.Outline.the-variants.{Unended, 
 
 -- the address of the element at a position, 0 if there is none
 abbrev pub addressAt : Pattern → ℕ → ℕ → Bytes
-addressAt p width k = getD (addressesOf p width (elements (p .shape))) k noBytes
+addressAt p width k = record { 0 = getD (addressesOf p width (elements (p .shape))) k (pos 0) }
 
 -- the loops that the descriptors give, counted, and their first and last element
 unfoldable pub extentOf : Pattern → ℕ → Extent

@@ -1,28 +1,34 @@
 -- Where a walk stands, with what the step to the next element of its row needs.
 --
+--   Place                     an element's index and address, the innermost size of its pass, and the innermost stride in bytes
 --   placeAt, inRow, alongOf   the place of an element; one in a row; one element further along it
---   Onward                  what the step from a position says
---   addressesOf             the addresses of elements
---   stopsAt                 where a chunk ends
---   Ready, Planned          a plan of the next chunk
+--   Onward                    what the step from a position says
+--   stopsAt                   where a chunk ends
+--   Ready                     a stream with a next chunk
 use Prim.Native.Nat.{ℕ, _+_, _≤_, _<_}
 use mathlib.Core.Path.{_≡_}
-use mathlib.Core.List.{List, [], map}
+use mathlib.Core.List.{List, []}
 use mathlib.Core.Bool.{Bool, true, not, _||_}
-use lib.ListN.{length, getD, take, drop, set}
+use lib.ListN.{length, getD, drop, set}
 use lib.Dec.{ltb}
 use lib.IntN.{_+ℤ_}
 use Rattle.codec.specs.declared.amounts.Bytes.{Bytes}
 use Rattle.codec.specs.declared.header.Coupling.{Coupling}
 use Rattle.codec.specs.declared.header.Coupling.the-variants.{Uncoupled, Coupled}
 use Rattle.engine.specs.Loops.{sizeAt, elements}
-use Rattle.engine.specs.Chunks.{height, chunk}
+use Rattle.engine.specs.Chunks.{height}
 use Rattle.engine.specs.Addresses.{strideAt, inBytes, address}
-use Rattle.engine.specs.Registers.{indexOf, shapeOf, movedBy}
+use Rattle.engine.specs.Registers.{indexOf, shapeOf}
 use Rattle.engine.specs.Good.{RangedPattern, Accepted}
 use Rattle.engine.specs.declared.register.Register.{Register}
 use Rattle.engine.specs.declared.stream.Pattern.{Pattern}
-use Rattle.engine.specs.declared.place.Place.{Place}
+
+-- an element's index and address, the innermost size of its pass, and the innermost stride in bytes
+pub record Place : Type 0 where
+  pub index : List ℕ
+  pub address : Bytes
+  pub size : ℕ
+  pub step : Bytes
 
 -- the place at seven indices: the address there, the innermost size in this pass, and the innermost stride in bytes
 abbrev pub placeAt : Pattern → ℕ → List ℕ → Place
@@ -38,10 +44,6 @@ pub record Onward (p : Pattern) (width k : ℕ) (found : Bool) (place : Place) (
   pub told : found ≡ ltb k (length (elements (p .shape)))
   pub here : found ≡ true → place ≡ placeAt p width (indexOf (getD (elements (p .shape)) k []))
   pub high : h ≡ height (p .shape) k
-
--- the addresses of elements, in their order
-abbrev pub addressesOf : Pattern → ℕ → List (List ℕ) → List Bytes
-addressesOf p width = map (λ v. record { 0 = address p width v })
 
 -- the place with innermost index i in a row's indices
 abbrev pub inRow : List ℕ → ℕ → Bytes → ℕ → Bytes → Place
@@ -69,9 +71,3 @@ pub record Ready (r : Register) : Type 0 where
   pub some : r .moved < length (elements (shapeOf r))
   pub index : r .index ≡ indexOf (getD (elements (shapeOf r)) (r .moved) [])
   pub height : r .height ≡ height (shapeOf r) (r .moved)
-
--- a plan of a stream's next chunk, at most so many elements: how many, their addresses, and the register after it
-pub record Planned (r : Register) (most count : ℕ) (addresses : List Bytes) (after : Register) : Type 0 where
-  pub counted : count ≡ length (chunk (shapeOf r) most (r .moved))
-  pub addressed : take count addresses ≡ addressesOf (r .pattern) (r .width) (chunk (shapeOf r) most (r .moved))
-  pub moved : after ≡ movedBy count r

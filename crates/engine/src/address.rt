@@ -1,16 +1,15 @@
 // Where an element lies.
-use crate::gain::gained;
-use crate::stream::Pattern;
+use crate::gain::gains;
 use codec::amounts::Bytes;
 use codec::amounts::Elements;
-use codec::operation::Behaviour;
 use codec::operation::Parameter;
-ghost use Prim.Native.Nat.{ℕ, suc, _+_, _^_, _<_, _≤_};
+ghost use Prim.Native.Nat.{suc, _+_, _^_, _<_, _≤_};
 ghost use lib.ListN.{getD, drop};
-ghost use lib.IntN.{natAbs, subℕ, _+ℤ_};
+ghost use lib.IntN.{pos, natAbs, subℕ, _+ℤ_, _*ℤ_};
 ghost use Rattle.engine.specs.Addresses.{offsetAt, strideAt, inBytes};
 ghost use Rattle.engine.specs.AddressLaws.{Small, Is};
 ghost use Rattle.engine.specs.Good.{RangedPattern};
+ghost use Rattle.engine.specs.Rows.{patternIn};
 
 // What modifiers move a parameter by.
 struct Change(i64);
@@ -41,32 +40,6 @@ fn elements_moved(a: Elements, by: Change) -> Elements
     Elements(x + y)
 }
 
-// The offset of dimension `d`, in bytes, where the dimensions outside it stand at the indices of `index` above `d`.
-pub(crate) fn offset_at(p: Pattern, index: [u64; 7], d: usize) -> Bytes
-    requires { ⌜ RangedPattern p × (d < 7) × Small index ⌝ }
-    ensures { λ r. ⌜ Is (offsetAt p d (drop (suc d) index)) (2 ^ 36) (r .0) ⌝ }
-{
-    let s = p.shape;
-    let offsets = p.offsets;
-    let offset = offsets[d];
-    let up = gained(s, Parameter::Offset, Behaviour::Add, index, d);
-    let down = gained(s, Parameter::Offset, Behaviour::Subtract, index, d);
-    bytes_moved(offset, change_of(up, down))
-}
-
-// Its stride, in elements.
-pub(crate) fn stride_at(p: Pattern, index: [u64; 7], d: usize) -> Elements
-    requires { ⌜ RangedPattern p × (d < 7) × Small index ⌝ }
-    ensures { λ r. ⌜ Is (strideAt p d (drop (suc d) index)) (2 ^ 36) (r .0) ⌝ }
-{
-    let s = p.shape;
-    let strides = p.strides;
-    let stride = strides[d];
-    let up = gained(s, Parameter::Stride, Behaviour::Add, index, d);
-    let down = gained(s, Parameter::Stride, Behaviour::Subtract, index, d);
-    elements_moved(stride, change_of(up, down))
-}
-
 // So many strides in bytes: the one place where elements become bytes.
 pub(crate) fn in_bytes(stride: Elements, index: u64, width: u64) -> Bytes
     requires { ⌜ (natAbs (stride .0) ≤ 2 ^ 36) × (index ≤ 4096) × (width ≤ 8) ⌝ }
@@ -87,6 +60,15 @@ pub(crate) fn plus(a: Bytes, b: Bytes) -> Bytes
     Bytes(x + y)
 }
 
+// So many steps of so many bytes.
+pub(crate) fn times(step: Bytes, n: u64) -> Bytes
+    requires { ⌜ (natAbs (step .0) ≤ 2 ^ 51) × (n ≤ 64) ⌝ }
+    ensures { λ r. ⌜ Is (step .0 *ℤ pos n) (2 ^ 57) (r .0) ⌝ }
+{
+    let x = step.0;
+    Bytes(x * (n as i64))
+}
+
 // What a dimension adds to the address: its offset, which counts bytes, and its stride times its index, in bytes.
 fn offset_and_stride(offset: Bytes, stride: Elements, index: u64, width: u64) -> Bytes
     requires { ⌜ (natAbs (offset .0) ≤ 2 ^ 36) × (natAbs (stride .0) ≤ 2 ^ 36) × (index ≤ 4096) × (width ≤ 8) ⌝ }
@@ -95,28 +77,54 @@ fn offset_and_stride(offset: Bytes, stride: Elements, index: u64, width: u64) ->
     plus(offset, in_bytes(stride, index, width))
 }
 
-// What dimension `d` adds.
-fn term(p: Pattern, width: u64, index: [u64; 7], d: usize) -> Bytes
-    requires { ⌜ RangedPattern p × (width ≤ 8) × (d < 7) × Small index ⌝ }
-    ensures { λ r. ⌜ Is (offsetAt p d (drop (suc d) index) +ℤ inBytes (strideAt p d (drop (suc d) index)) (getD index d 0) width) (2 ^ 52) (r .0) ⌝ }
+// The offset of dimension `d`, in bytes, of the pattern in two rows, where the dimensions outside it stand at the indices of `index` above
+// `d`.
+fn offset_at(shape: &[u64; 51], places: &[i64; 15], index: &[u64; 7], d: usize) -> Bytes
+    requires { ⌜ RangedPattern (patternIn (now shape) (now places)) × (d < 7) × Small (now index) ⌝ }
+    ensures { λ r. ⌜ Is (offsetAt (patternIn (now (shape .entry)) (now (places .entry))) d (drop (suc d) (now (index .entry)))) (2 ^ 36) (r .0) ⌝ }
 {
-    let offset = offset_at(p, index, d);
-    let stride = stride_at(p, index, d);
+    let offset = Bytes(places[1 + d]);
+    let g = gains(shape, Parameter::Offset, index, d);
+    bytes_moved(offset, change_of(g.up, g.down))
+}
+
+// Its stride, in elements.
+pub(crate) fn stride_at(
+    shape: &[u64; 51],
+    places: &[i64; 15],
+    index: &[u64; 7],
+    d: usize,
+) -> Elements
+    requires { ⌜ RangedPattern (patternIn (now shape) (now places)) × (d < 7) × Small (now index) ⌝ }
+    ensures { λ r. ⌜ Is (strideAt (patternIn (now (shape .entry)) (now (places .entry))) d (drop (suc d) (now (index .entry)))) (2 ^ 36) (r .0) ⌝ }
+{
+    let stride = Elements(places[8 + d]);
+    let g = gains(shape, Parameter::Stride, index, d);
+    elements_moved(stride, change_of(g.up, g.down))
+}
+
+// What dimension `d` of the pattern in two rows adds.
+fn term(shape: &[u64; 51], places: &[i64; 15], width: u64, index: &[u64; 7], d: usize) -> Bytes
+    requires { ⌜ RangedPattern (patternIn (now shape) (now places)) × (width ≤ 8) × (d < 7) × Small (now index) ⌝ }
+    ensures { λ r. ⌜ Is (offsetAt (patternIn (now (shape .entry)) (now (places .entry))) d (drop (suc d) (now (index .entry))) +ℤ inBytes (strideAt (patternIn (now (shape .entry)) (now (places .entry))) d (drop (suc d) (now (index .entry)))) (getD (now (index .entry)) d 0) width) (2 ^ 52) (r .0) ⌝ }
+{
+    let offset = offset_at(shape, places, index, d);
+    let stride = stride_at(shape, places, index, d);
     let i = index[d];
     offset_and_stride(offset, stride, i, width)
 }
 
-// The address of the element at the indices `index`: base + the sum over dimensions of (offset + stride x index x width).
-pub(crate) fn address(p: Pattern, width: u64, index: [u64; 7]) -> Bytes
-    requires { ⌜ RangedPattern p × (width ≤ 8) × Small index ⌝ }
-    ensures { λ r. ⌜ Is (Rattle.engine.specs.Addresses.address p width index) (2 ^ 55) (r .0) ⌝ }
+// The address of the element at the indices `index`, of the pattern in two rows: base + the sum over dimensions of (offset + stride x
+// index x width).
+pub(crate) fn address(shape: &[u64; 51], places: &[i64; 15], width: u64, index: &[u64; 7]) -> Bytes
+    requires { ⌜ RangedPattern (patternIn (now shape) (now places)) × (width ≤ 8) × Small (now index) ⌝ }
+    ensures { λ r. ⌜ Is (Rattle.engine.specs.Addresses.address (patternIn (now (shape .entry)) (now (places .entry))) width (now (index .entry))) (2 ^ 55) (r .0) ⌝ }
 {
-    let s = p.shape;
-    let n = s.dims;
-    let mut sum = p.base;
+    let n = shape[7] as usize;
+    let mut sum = Bytes(places[0]);
     let mut d = 0;
     while d < n {
-        let t = term(p, width, index, d);
+        let t = term(shape, places, width, index, d);
         sum = plus(sum, t);
         d += 1;
     }

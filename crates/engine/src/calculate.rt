@@ -1,45 +1,56 @@
-// One calculation on three registers and a lent memory: every check first, then everything moves.
+// One calculation on three running registers and a lent memory: every check first, then everything moves.
+use crate::ahead::Ahead;
 use crate::check::Why;
-use crate::memory::combine;
-use crate::operand::Operand;
 use crate::operand::as_operand;
-use crate::operand::lanes_of;
 use crate::operand::outside;
 use crate::operand::read_on;
 use crate::operand::second_operand;
+use crate::operand::unmoved;
 use crate::operand::write_on;
-use crate::operand::written_on;
-use crate::register::Register;
+use crate::running::Running;
 use crate::states::why_states;
 use crate::states::widths_differ;
+use crate::transfer::combine_lanes;
+use crate::transfer::look_at;
 use codec::operation::Action;
 use codec::refusal::Refusal;
 ghost use mathlib.Core.Path.{_≡_};
 ghost use mathlib.Core.Bool.{true, not, cond, _&&_, _||_};
 ghost use Prim.Native.Nat.{_*_, _/_, _≤_, _<_};
-ghost use lib.ListN.{length, take};
+ghost use lib.ListN.{length};
 ghost use lib.Dec.{eqb, ltb};
-ghost use Rattle.engine.specs.Good.{IsWidth, Good};
-ghost use Rattle.engine.specs.Plans.{allWithin};
-ghost use Rattle.engine.specs.Operands.{Calculated, Fitting, CarriedOut};
+ghost use Rattle.engine.specs.Good.{IsWidth};
+ghost use Rattle.engine.specs.Rows.{patternAt};
+ghost use Rattle.engine.specs.Memory.{packed};
+ghost use Rattle.engine.specs.Stretches.{allWithin, fetchedAt};
+ghost use Rattle.engine.specs.Runnings.{Near, filledWith};
+ghost use Rattle.engine.specs.Calculations.{listedIn, Fit, Within, Cleared, Carries};
 
-// What a calculation gives: why it was refused, if it was, and the three registers after it.
-pub(crate) struct Outcome {
+// What the checks found: why the calculation is refused, if it is; the three operands, if it is not.
+pub(crate) struct Checked {
     pub why: Why,
-    pub first: Register,
-    pub second: Register,
-    pub destination: Register,
+    pub first: Ahead,
+    pub second: Ahead,
+    pub destination: Ahead,
 }
 
-// A refused calculation: the registers as they were.
-fn refused(why: Why, a: Register, b: Register, d: Register) -> Outcome
-    ensures { λ r. ⌜ (r .why ≡ why) × ((r .first ≡ a) × ((r .second ≡ b) × (r .destination ≡ d))) ⌝ }
+// The three registers after a calculation.
+pub(crate) struct Outcome {
+    pub first: Running,
+    pub second: Running,
+    pub destination: Running,
+}
+
+// A refused calculation.
+fn refused(why: Why, a: Running) -> Checked
+    ensures { λ r. ⌜ r .why ≡ why ⌝ }
 {
-    Outcome {
+    let none = unmoved(a, 0);
+    Checked {
         why,
-        first: a,
-        second: b,
-        destination: d,
+        first: none,
+        second: none,
+        destination: none,
     }
 }
 
@@ -52,7 +63,7 @@ fn lanes(vl: u64, width: u64) -> usize
 }
 
 // Whether the sources' lanes differ in number, or exceed the store's chunk: 13.
-fn lanes_differ(n: usize, m: usize, z: Operand) -> bool
+fn lanes_differ(n: usize, m: usize, z: Ahead) -> bool
     ensures { λ r. ⌜ r ≡ (not (eqb n m) || z .live && ltb (z .count) n) ⌝ }
 {
     if n != m {
@@ -64,69 +75,133 @@ fn lanes_differ(n: usize, m: usize, z: Operand) -> bool
     false
 }
 
-// Everything moves: both sources are read, the lanes are calculated and written, in this order.
-fn carry_out(
-    action: Action,
-    a: Register,
-    b: Register,
-    d: Register,
-    x: Operand,
-    y: Operand,
-    z: Operand,
-    memory: &mut [u8],
-) -> Outcome
-    requires { ⌜ Fitting (length (now memory)) a b d x y z ⌝ }
-    ensures { λ r. ⌜ CarriedOut action (now (memory .entry)) a b d x y z (r .why) (r .first) (r .second) (r .destination) (now (memory .exit)) ⌝ }
-{
-    let p = lanes_of(x, a, memory);
-    let q = lanes_of(y, b, memory);
-    let out = combine(action, a.width, p, q);
-    write_on(z, d.width, out, memory);
-    Outcome {
-        why: Why::Nothing,
-        first: read_on(x, a, p),
-        second: read_on(y, b, q),
-        destination: written_on(z, d, a.width, out),
-    }
-}
-
-// A calculation: the checks in document 01's order, and what it does if none applies. The sources are the same register if `same`.
-pub(crate) fn calculate(
+// The checks of a calculation in document 01's order, on first source `a` of register `i`, second source `b` of register `j` and
+// destination `d` of register `t`. The sources are the same register if `same`.
+pub(crate) fn check_calculation(
     vl: u64,
-    action: Action,
     same: bool,
-    a: Register,
-    b: Register,
-    d: Register,
-    memory: &mut [u8],
-) -> Outcome
-    requires { ⌜ ((8 ≤ vl) × (vl ≤ 64)) × (same ≡ true → b ≡ a) ⌝ }
-    requires { ⌜ Good vl a × (Good vl b × Good vl d) ⌝ }
-    ensures { λ r. ⌜ Calculated vl action (now (memory .entry)) a b d (r .why) (r .first) (r .second) (r .destination) (now (memory .exit)) ⌝ }
+    a: Running,
+    b: Running,
+    d: Running,
+    i: usize,
+    j: usize,
+    t: usize,
+    len: usize,
+    shapes: &[[u64; 51]; 32],
+    places: &[[i64; 15]; 32],
+    va: &mut [u64; 7],
+    vb: &mut [u64; 7],
+    vd: &mut [u64; 7],
+    xs: &mut [i64; 64],
+    ys: &mut [i64; 64],
+    zs: &mut [i64; 64],
+) -> Checked
+    requires { ⌜ ((8 ≤ vl) × (vl ≤ 64)) × ((i < 32) × ((j < 32) × (t < 32))) ⌝ }
+    requires { ⌜ (length (now xs) ≡ 64) × ((length (now ys) ≡ 64) × (length (now zs) ≡ 64)) ⌝ }
+    requires { ⌜ Fit vl (patternAt (now shapes) (now places) i) (now va) a × (Fit vl (patternAt (now shapes) (now places) j) (now vb) b × Fit vl (patternAt (now shapes) (now places) t) (now vd) d) ⌝ }
+    requires { ⌜ (same ≡ true → (b ≡ a) × ((j ≡ i) × (now vb ≡ now va))) ⌝ }
+    ensures { λ r. ⌜ Cleared vl len same (patternAt (now (shapes .entry)) (now (places .entry)) i) (patternAt (now (shapes .entry)) (now (places .entry)) j) (patternAt (now (shapes .entry)) (now (places .entry)) t) a b d (now (va .entry)) (now (vb .entry)) (now (vd .entry)) (now (va .exit)) (now (vb .exit)) (now (vd .exit)) (now (xs .exit)) (now (ys .exit)) (now (zs .exit)) r ⌝ }
+    ensures { λ _. ⌜ (length (now (xs .exit)) ≡ 64) × ((length (now (ys .exit)) ≡ 64) × (length (now (zs .exit)) ≡ 64)) ⌝ }
 {
     let why = why_states(a, b, d);
     let Why::Nothing = why else {
-        return refused(why, a, b, d);
+        return refused(why, a);
     };
     if widths_differ(a, b, d) {
-        return refused(Why::Because(Refusal::Widths), a, b, d);
+        return refused(Why::Because(Refusal::Widths), a);
     }
-    let len = memory.len();
-    let x = as_operand(a, lanes(vl, a.width), a.valid as usize);
-    let y = second_operand(same, x, b, lanes(vl, b.width), b.valid as usize);
+    let most = lanes(vl, a.width);
+    let x = as_operand(a, most, a.valid as usize, &shapes[i], &places[i], va, xs);
     let n = x.count;
-    let z = as_operand(d, n, n);
+    let y = second_operand(
+        same,
+        x,
+        va,
+        xs,
+        b,
+        most,
+        b.valid as usize,
+        &shapes[j],
+        &places[j],
+        vb,
+        ys,
+    );
+    let z = as_operand(d, n, n, &shapes[t], &places[t], vd, zs);
     if lanes_differ(n, y.count, z) {
-        return refused(Why::Because(Refusal::LaneCounts), a, b, d);
+        return refused(Why::Because(Refusal::LaneCounts), a);
     }
-    if outside(x, a.width, len) {
-        return refused(Why::Because(Refusal::Outside), a, b, d);
+    if outside(x, a.width, len, xs) {
+        return refused(Why::Because(Refusal::Outside), a);
     }
-    if outside(y, b.width, len) {
-        return refused(Why::Because(Refusal::Outside), a, b, d);
+    if outside(y, b.width, len, ys) {
+        return refused(Why::Because(Refusal::Outside), a);
     }
-    if outside(z, d.width, len) {
-        return refused(Why::Because(Refusal::Outside), a, b, d);
+    if outside(z, d.width, len, zs) {
+        return refused(Why::Because(Refusal::Outside), a);
     }
-    carry_out(action, a, b, d, x, y, z, memory)
+    Checked {
+        why: Why::Nothing,
+        first: x,
+        second: y,
+        destination: z,
+    }
+}
+
+// The second source read: the first once more if it is the same register.
+fn read_second(
+    same: bool,
+    first: Running,
+    la: &[u8; 64],
+    o: Ahead,
+    width: u64,
+    memory: &[u8],
+    addresses: &[i64; 64],
+    lanes: &mut [u8; 64],
+) -> Running
+    requires { ⌜ ((1 ≤ width) × (width ≤ 8)) × ((o .count * width ≤ 64) × Near (o .start) (o .step)) ⌝ }
+    requires { ⌜ (o .live ≡ true → allWithin (length (now memory)) width (listedIn o (now addresses)) ≡ true) ⌝ }
+    requires { ⌜ (same ≡ true → (first ≡ cond (o .live) (filledWith width (o .count) (o .after)) (o .after)) × (now la ≡ cond (o .live) (packed width (fetchedAt (now memory) width (listedIn o (now addresses)))) (now lanes))) ⌝ }
+    ensures { λ q. ⌜ q ≡ cond (o .live) (filledWith width (o .count) (o .after)) (o .after) ⌝ }
+    ensures { λ _. ⌜ now (lanes .exit) ≡ cond (o .live) (packed width (fetchedAt (now (memory .entry)) width (listedIn o (now (addresses .entry))))) (now (lanes .entry)) ⌝ }
+{
+    if same {
+        *lanes = *la;
+        return first;
+    }
+    read_on(o, width, memory, addresses, lanes)
+}
+
+// Everything moves: both sources are read, the lanes are calculated and written, in this order.
+pub(crate) fn carry_out(
+    action: Action,
+    same: bool,
+    width: u64,
+    x: Ahead,
+    y: Ahead,
+    z: Ahead,
+    xs: &[i64; 64],
+    ys: &[i64; 64],
+    zs: &[i64; 64],
+    la: &mut [u8; 64],
+    lb: &mut [u8; 64],
+    ld: &mut [u8; 64],
+    memory: &mut [u8],
+) -> Outcome
+    requires { ⌜ Within (length (now memory)) width x y z (now xs) (now ys) (now zs) ⌝ }
+    requires { ⌜ (same ≡ true → (y ≡ x) × ((listedIn y (now ys) ≡ listedIn x (now xs)) × (now lb ≡ now la))) ⌝ }
+    ensures { λ r. ⌜ Carries action width (now (memory .entry)) x y z (now (xs .entry)) (now (ys .entry)) (now (zs .entry)) (now (la .entry)) (now (lb .entry)) (now (ld .entry)) r (now (la .exit)) (now (lb .exit)) (now (ld .exit)) (now (memory .exit)) ⌝ }
+{
+    let n = x.count;
+    let first = read_on(x, width, memory, xs, la);
+    let second = read_second(same, first, la, y, width, memory, ys, lb);
+    let one = look_at(la);
+    let other = look_at(lb);
+    let mut out = [0u8; 64];
+    combine_lanes(action, width, n, la, lb, &mut out);
+    let destination = write_on(z, width, n, &out, memory, zs, ld);
+    Outcome {
+        first,
+        second,
+        destination,
+    }
 }

@@ -1,7 +1,6 @@
 // The configuring operations: their checks in document 01's order, and what they make of a register and of the machine.
 use crate::check::Why;
 use crate::plan::ended;
-use crate::register::Machine;
 use crate::register::Register;
 use crate::register::State;
 use crate::register::fresh;
@@ -19,12 +18,12 @@ use codec::operation::Operation;
 use codec::refusal::Refusal;
 ghost use mathlib.Core.Path.{_≡_};
 ghost use mathlib.Core.Bool.{true};
-ghost use Prim.Native.Nat.{ℕ, _<_, _≤_, _+_};
+ghost use Prim.Native.Nat.{ℕ, _<_, _≤_};
 ghost use Rattle.codec.specs.Operations.{operationInRange};
 ghost use Rattle.engine.specs.Checks.{firstOf};
 ghost use Rattle.engine.specs.Registers.{isConfiguring, shapeOf};
-ghost use Rattle.engine.specs.Configure.{openChecks, dimensionChecks, modifierChecks, uncovered, endChecks, opened, patterned, dimensioned, modified, owned, ended, registerOf, checksFor, applied, unlessBecause, whyNot, configured};
-ghost use Rattle.engine.specs.Good.{Ranged, Good, AllGood};
+ghost use Rattle.engine.specs.Configure.{openChecks, dimensionChecks, modifierChecks, uncovered, endChecks, opened, patterned, dimensioned, modified, owned, ended, registerOf, checksFor, applied, unlessBecause};
+ghost use Rattle.engine.specs.Good.{Ranged, Good};
 
 // Why open is refused: 5.
 pub(crate) fn why_open(r: Register) -> Why
@@ -371,25 +370,4 @@ pub(crate) fn register_of(o: Operation) -> usize
         Operation::End(i) => i,
         Operation::Run(i, n) => i,
     }
-}
-
-// An operation on the machine: why it is refused, if it is, and the machine after it, which a refusal leaves as it was.
-pub(crate) struct Configured {
-    pub why: Why,
-    pub machine: Machine,
-}
-
-pub(crate) fn configure(m: Machine, o: Operation) -> Configured
-    requires { ⌜ ((vl : ℕ) × AllGood vl m) × (operationInRange o ≡ true) ⌝ }
-    ensures { λ q. ⌜ (q .why ≡ whyNot o m) × (q .machine ≡ configured o m) ⌝ }
-{
-    let i = register_of(o);
-    let mut registers = m.registers;
-    let r = registers[i];
-    let a = apply(o, r);
-    let why = a.why;
-    let register = a.register;
-    registers[i] = register;
-    let machine = Machine { registers };
-    Configured { why, machine }
 }

@@ -1,6 +1,9 @@
 // The passes of a run.
-use crate::calculate::calculate;
+use crate::calculate::carry_out;
+use crate::calculate::check_calculation;
 use crate::check::Why;
+use crate::layout::lay_out;
+use crate::layout::rejoined;
 use crate::register::Machine;
 use crate::register::is_open;
 use crate::run::Answer;
@@ -29,10 +32,18 @@ pub(crate) fn execute(
 {
     let n = body.count;
     let steps = body.steps;
-    let mut registers = m.registers;
+    let len = memory.len();
+    let mut shapes = [[0u64; 51]; 32];
+    let mut places = [[0i64; 15]; 32];
+    let mut lanes = [[0u8; 64]; 32];
+    let mut indices = [[0u64; 7]; 32];
+    let mut all = lay_out(m, &mut shapes, &mut places, &mut lanes, &mut indices);
+    let mut xs = [0i64; 64];
+    let mut ys = [0i64; 64];
+    let mut zs = [0i64; 64];
     let mut passes = 0;
     let mut calculations = 0;
-    let looped = registers[register];
+    let looped = all[register];
     let state = looped.state;
     let mut open = is_open(state);
     while open {
@@ -42,13 +53,32 @@ pub(crate) fn execute(
             let c = step.calculation;
             let i = c.first;
             let j = c.second;
-            let d = c.destination;
-            let a = registers[i];
-            let b = registers[j];
-            let z = registers[d];
-            let action = c.action;
-            let same = i == j;
-            let o = calculate(vl, action, same, a, b, z, memory);
+            let t = c.destination;
+            let a = all[i];
+            let b = all[j];
+            let d = all[t];
+            let mut va = indices[i];
+            let mut vb = indices[j];
+            let mut vd = indices[t];
+            let o = check_calculation(
+                vl,
+                i == j,
+                a,
+                b,
+                d,
+                i,
+                j,
+                t,
+                len,
+                &shapes,
+                &places,
+                &mut va,
+                &mut vb,
+                &mut vd,
+                &mut xs,
+                &mut ys,
+                &mut zs,
+            );
             let why = o.why;
             if let Why::Because(x) = why {
                 return Answer {
@@ -57,20 +87,48 @@ pub(crate) fn execute(
                         passes,
                         calculations,
                     },
-                    machine: Machine { registers },
+                    machine: rejoined(m, &shapes, &places, &lanes, &indices, all),
                 };
             }
+            let mut la = lanes[i];
+            let mut lb = lanes[j];
+            let mut ld = lanes[t];
+            let action = c.action;
             let first = o.first;
             let second = o.second;
             let destination = o.destination;
-            registers[i] = first;
-            registers[j] = second;
-            registers[d] = destination;
+            let e = carry_out(
+                action,
+                i == j,
+                a.width,
+                first,
+                second,
+                destination,
+                &xs,
+                &ys,
+                &zs,
+                &mut la,
+                &mut lb,
+                &mut ld,
+                memory,
+            );
+            let f = e.first;
+            let s = e.second;
+            let w = e.destination;
+            all[i] = f;
+            lanes[i] = la;
+            indices[i] = va;
+            all[j] = s;
+            lanes[j] = lb;
+            indices[j] = vb;
+            all[t] = w;
+            lanes[t] = ld;
+            indices[t] = vd;
             calculations += 1;
             k += 1;
         }
         passes += 1;
-        let after = registers[register];
+        let after = all[register];
         let state = after.state;
         open = is_open(state);
     }
@@ -80,6 +138,6 @@ pub(crate) fn execute(
             passes,
             calculations,
         },
-        machine: Machine { registers },
+        machine: rejoined(m, &shapes, &places, &lanes, &indices, all),
     }
 }

@@ -1,154 +1,174 @@
-// The registers of a calculation as operands: planned with no memory touched, then read or written.
-use crate::memory::Lanes;
-use crate::memory::contents;
-use crate::memory::first_outside;
-use crate::memory::packed;
-use crate::memory::read_all;
-use crate::memory::write_all;
-use crate::plan::plan_chunk;
-use crate::register::Register;
+// The registers of a calculation as operands: looked at with no memory touched, then read or written.
+use crate::ahead::Ahead;
+use crate::ahead::look_ahead;
 use crate::register::is_open;
+use crate::running::Running;
+use crate::transfer::all_within;
+use crate::transfer::read_at;
+use crate::transfer::read_row;
+use crate::transfer::row_within;
+use crate::transfer::write_at;
+use crate::transfer::write_row;
 use codec::amounts::Bytes;
 ghost use mathlib.Core.Path.{_≡_};
-ghost use mathlib.Core.Bool.{true, cond, not, _&&_};
+ghost use mathlib.Core.List.{[]};
+ghost use mathlib.Core.Bool.{true, false, cond, not, _&&_};
 ghost use Prim.Native.Nat.{_*_, _≤_};
-ghost use lib.ListN.{length, take};
+ghost use lib.ListN.{length};
+ghost use lib.IntN.{pos};
 ghost use Rattle.engine.specs.Registers.{isOpen};
-ghost use Rattle.engine.specs.Memory.{holding};
+ghost use Rattle.engine.specs.Memory.{lanesFrom, packed};
 ghost use Rattle.engine.specs.Places.{Ready};
-ghost use Rattle.engine.specs.Plans.{laneList, Narrow, allWithin, storedAt};
-ghost use Rattle.engine.specs.Operands.{Operates, lanesOf};
+ghost use Rattle.engine.specs.Rows.{patternIn};
+ghost use Rattle.engine.specs.Stretches.{allWithin, fetchedAt, storedAt};
+ghost use Rattle.engine.specs.Runnings.{viewOf, Remembers, listed, Near, filledWith};
+ghost use Rattle.engine.specs.Operands.{Taken};
 
-// A register as an operand: whether its stream is open, how many lanes, their addresses if it is, and the register after it.
-pub(crate) struct Operand {
-    pub live: bool,
-    pub count: usize,
-    pub addresses: [Bytes; 64],
-    pub after: Register,
+// A register that is no open stream: so many lanes, and nothing moves.
+pub(crate) fn unmoved(r: Running, plain: usize) -> Ahead
+    ensures { λ o. ⌜ o ≡ record { live = false; rowed = true; count = plain; start = record { 0 = pos 0 }; step = record { 0 = pos 0 }; after = r } ⌝ }
+{
+    Ahead {
+        live: false,
+        rowed: true,
+        count: plain,
+        start: Bytes(0),
+        step: Bytes(0),
+        after: r,
+    }
 }
 
 // A register as an operand: of an open stream at most so many elements of its next chunk, of any other register so many lanes.
-pub(crate) fn as_operand(r: Register, most: usize, plain: usize) -> Operand
-    requires { ⌜ (most ≤ 64) × (isOpen (r .state) ≡ true → Ready r) ⌝ }
-    ensures { λ o. ⌜ Operates r most plain o ⌝ }
+pub(crate) fn as_operand(
+    r: Running,
+    most: usize,
+    plain: usize,
+    shape: &[u64; 51],
+    places: &[i64; 15],
+    index: &mut [u64; 7],
+    addresses: &mut [i64; 64],
+) -> Ahead
+    requires { ⌜ (most ≤ 64) × (length (now addresses) ≡ 64) ⌝ }
+    requires { ⌜ (isOpen (r .state) ≡ true → Ready (viewOf (patternIn (now shape) (now places)) [] (now index) r)) × Remembers (patternIn (now shape) (now places)) (now index) r ⌝ }
+    ensures { λ o. ⌜ Taken (patternIn (now (shape .entry)) (now (places .entry))) (now (index .entry)) r most plain (now (index .exit)) (now (addresses .exit)) o ⌝ }
 {
     let k = r.state;
     if is_open(k) {
-        let p = plan_chunk(r, most);
-        let addresses = p.addresses;
-        let after = p.after;
-        return Operand {
-            live: true,
-            count: p.count,
-            addresses,
-            after,
-        };
+        return look_ahead(r, most, shape, places, index, addresses);
     }
-    Operand {
-        live: false,
-        count: plain,
-        addresses: [Bytes(0); 64],
-        after: r,
-    }
+    unmoved(r, plain)
 }
 
 // The second source: the first once more if it is the same register.
 pub(crate) fn second_operand(
     same: bool,
-    x: Operand,
-    r: Register,
+    x: Ahead,
+    first: &[u64; 7],
+    xs: &[i64; 64],
+    r: Running,
     most: usize,
     plain: usize,
-) -> Operand
-    requires { ⌜ (most ≤ 64) × (isOpen (r .state) ≡ true → Ready r) ⌝ }
-    requires { ⌜ (same ≡ true → Operates r most plain x) ⌝ }
-    ensures { λ o. ⌜ Operates r most plain o ⌝ }
+    shape: &[u64; 51],
+    places: &[i64; 15],
+    index: &mut [u64; 7],
+    addresses: &mut [i64; 64],
+) -> Ahead
+    requires { ⌜ (most ≤ 64) × (length (now addresses) ≡ 64) ⌝ }
+    requires { ⌜ (isOpen (r .state) ≡ true → Ready (viewOf (patternIn (now shape) (now places)) [] (now index) r)) × Remembers (patternIn (now shape) (now places)) (now index) r ⌝ }
+    requires { ⌜ (same ≡ true → Taken (patternIn (now shape) (now places)) (now index) r most plain (now first) (now xs) x) ⌝ }
+    ensures { λ o. ⌜ Taken (patternIn (now (shape .entry)) (now (places .entry))) (now (index .entry)) r most plain (now (index .exit)) (now (addresses .exit)) o ⌝ }
+    ensures { λ o. ⌜ (same ≡ true → (o ≡ x) × (listed (o .rowed) (o .start) (o .step) (o .count) (now (addresses .exit)) ≡ listed (x .rowed) (x .start) (x .step) (x .count) (now (xs .entry)))) ⌝ }
 {
     if same {
+        *index = *first;
+        if !x.rowed {
+            *addresses = *xs;
+        }
         return x;
     }
-    as_operand(r, most, plain)
+    as_operand(r, most, plain, shape, places, index, addresses)
 }
 
 // Whether an element that an open stream would move lies outside memory.
-pub(crate) fn outside(o: Operand, width: u64, len: usize) -> bool
-    requires { ⌜ (o .count ≤ 64) × (width ≤ 8) ⌝ }
-    ensures { λ q. ⌜ q ≡ (o .live && not (allWithin len width (take (o .count) (o .addresses)))) ⌝ }
+pub(crate) fn outside(o: Ahead, width: u64, len: usize, addresses: &[i64; 64]) -> bool
+    requires { ⌜ ((o .count ≤ 64) × (width ≤ 8)) × Near (o .start) (o .step) ⌝ }
+    ensures { λ q. ⌜ q ≡ (o .live && not (allWithin len width (listed (o .rowed) (o .start) (o .step) (o .count) (now (addresses .entry))))) ⌝ }
 {
-    let addresses = o.addresses;
-    if o.live {
-        return first_outside(addresses, o.count, width, len);
+    if !o.live {
+        return false;
     }
-    false
+    if o.rowed {
+        let start = o.start;
+        let step = o.step;
+        return !row_within(start, step, o.count, width, len);
+    }
+    !all_within(addresses, o.count, width, len)
 }
 
-// The lanes of a source.
-pub(crate) fn lanes_of(o: Operand, r: Register, memory: &[u8]) -> Lanes
-    requires { ⌜ ((1 ≤ r .width) × (r .width ≤ 8)) × (r .valid * r .width ≤ 64) ⌝ }
-    requires { ⌜ (o .count ≤ 64) × (o .live ≡ true → allWithin (length (now memory)) (r .width) (take (o .count) (o .addresses)) ≡ true) ⌝ }
-    ensures { λ q. ⌜ (laneList q ≡ lanesOf r o (now (memory .entry))) × ((q .count ≡ cond (o .live) (o .count) (r .valid)) × Narrow (r .width) (laneList q)) ⌝ }
+// A register with so many lanes of a width as its content.
+pub(crate) fn filled(r: Running, width: u64, n: u64) -> Running
+    ensures { λ q. ⌜ q ≡ filledWith width n r ⌝ }
 {
-    let addresses = o.addresses;
-    let bytes = r.lanes;
-    if o.live {
-        return read_all(memory, addresses, o.count, r.width);
-    }
-    contents(bytes, r.width, r.valid)
+    let mut q = r;
+    q.width = width;
+    q.valid = n;
+    q
 }
 
-// A register with these lanes as its content.
-pub(crate) fn hold(r: Register, width: u64, l: Lanes) -> Register
-    requires { ⌜ ((1 ≤ width) × (width ≤ 8)) × (l .count * width ≤ 64) ⌝ }
-    ensures { λ q. ⌜ q ≡ holding width (laneList l) r ⌝ }
-{
-    let state = r.state;
-    let kind = r.kind;
-    let pattern = r.pattern;
-    let index = r.index;
-    Register {
-        state,
-        width,
-        valid: l.count as u64,
-        lanes: packed(width, l),
-        kind,
-        pattern,
-        moved: r.moved,
-        index,
-        height: r.height,
-    }
-}
-
-// A source after it was read: of an open stream the register moved on, its chunk as its content.
-pub(crate) fn read_on(o: Operand, r: Register, l: Lanes) -> Register
-    requires { ⌜ ((1 ≤ r .width) × (r .width ≤ 8)) × (l .count * r .width ≤ 64) ⌝ }
-    ensures { λ q. ⌜ q ≡ cond (o .live) (holding (r .width) (laneList l) (o .after)) r ⌝ }
+// A source read: of an open stream the chunk becomes its content and the register moves on; any other stays.
+pub(crate) fn read_on(
+    o: Ahead,
+    width: u64,
+    memory: &[u8],
+    addresses: &[i64; 64],
+    lanes: &mut [u8; 64],
+) -> Running
+    requires { ⌜ ((1 ≤ width) × (width ≤ 8)) × ((o .count * width ≤ 64) × Near (o .start) (o .step)) ⌝ }
+    requires { ⌜ (o .live ≡ true → allWithin (length (now memory)) width (listed (o .rowed) (o .start) (o .step) (o .count) (now addresses)) ≡ true) ⌝ }
+    ensures { λ q. ⌜ q ≡ cond (o .live) (filledWith width (o .count) (o .after)) (o .after) ⌝ }
+    ensures { λ _. ⌜ now (lanes .exit) ≡ cond (o .live) (packed width (fetchedAt (now (memory .entry)) width (listed (o .rowed) (o .start) (o .step) (o .count) (now (addresses .entry))))) (now (lanes .entry)) ⌝ }
 {
     let after = o.after;
-    if o.live {
-        return hold(after, r.width, l);
+    if !o.live {
+        return after;
     }
-    r
+    if o.rowed {
+        let start = o.start;
+        let step = o.step;
+        read_row(memory, start, step, o.count, width, lanes);
+        return filled(after, width, o.count as u64);
+    }
+    read_at(memory, addresses, o.count, width, lanes);
+    filled(after, width, o.count as u64)
 }
 
-// A destination after it was written: of an open stream the register moved on, any other with the lanes as its content.
-pub(crate) fn written_on(o: Operand, r: Register, width: u64, l: Lanes) -> Register
-    requires { ⌜ ((1 ≤ width) × (width ≤ 8)) × (l .count * width ≤ 64) ⌝ }
-    ensures { λ q. ⌜ q ≡ cond (o .live) (o .after) (holding width (laneList l) r) ⌝ }
+// A destination written: lanes go to memory if it is a stream, which moves on; else they are the register's content.
+pub(crate) fn write_on(
+    o: Ahead,
+    width: u64,
+    n: usize,
+    out: &[u8; 64],
+    memory: &mut [u8],
+    addresses: &[i64; 64],
+    lanes: &mut [u8; 64],
+) -> Running
+    requires { ⌜ ((1 ≤ width) × (width ≤ 8)) × ((n * width ≤ 64) × Near (o .start) (o .step)) ⌝ }
+    requires { ⌜ (o .live ≡ true → (o .count ≡ n) × (allWithin (length (now memory)) width (listed (o .rowed) (o .start) (o .step) (o .count) (now addresses)) ≡ true)) ⌝ }
+    ensures { λ q. ⌜ q ≡ cond (o .live) (o .after) (filledWith width n (o .after)) ⌝ }
+    ensures { λ _. ⌜ now (lanes .exit) ≡ cond (o .live) (now (lanes .entry)) (now (out .entry)) ⌝ }
+    ensures { λ _. ⌜ now (memory .exit) ≡ cond (o .live) (storedAt (now (memory .entry)) width (listed (o .rowed) (o .start) (o .step) (o .count) (now (addresses .entry))) (lanesFrom (now (out .entry)) width 0 n)) (now (memory .entry)) ⌝ }
 {
-    if o.live {
-        return o.after;
+    let after = o.after;
+    if !o.live {
+        *lanes = *out;
+        return filled(after, width, n as u64);
     }
-    hold(r, width, l)
-}
-
-// The lanes written to memory, if the destination is a stream.
-pub(crate) fn write_on(o: Operand, width: u64, l: Lanes, memory: &mut [u8])
-    requires { ⌜ ((1 ≤ width) × (width ≤ 8)) × (l .count ≤ 64) ⌝ }
-    requires { ⌜ (o .live ≡ true → (o .count ≡ l .count) × (allWithin (length (now memory)) width (take (o .count) (o .addresses)) ≡ true)) ⌝ }
-    ensures { λ _. ⌜ now (memory .exit) ≡ cond (o .live) (storedAt (now (memory .entry)) width (take (o .count) (o .addresses)) (laneList l)) (now (memory .entry)) ⌝ }
-{
-    let addresses = o.addresses;
-    if o.live {
-        write_all(memory, addresses, width, l);
+    if o.rowed {
+        let start = o.start;
+        let step = o.step;
+        write_row(memory, start, step, n, width, out);
+        return after;
     }
+    write_at(memory, addresses, n, width, out);
+    after
 }

@@ -1,6 +1,8 @@
 // The streams of a sheet in outline: what their descriptors come to, for a listing.
 use crate::address::address;
 use crate::question::has_stream;
+use crate::row::place_row;
+use crate::row::shape_row;
 use crate::run::set_up;
 use crate::stream::Pattern;
 use crate::walk::first;
@@ -36,9 +38,10 @@ fn extent_of(p: Pattern, width: u64) -> Extent
     ensures { λ r. ⌜ r ≡ extentOf p width ⌝ }
 {
     let shape = p.shape;
-    let start = first(shape);
-    let from = start.index;
-    if !start.found {
+    let row = shape_row(shape);
+    let places = place_row(p);
+    let mut index: [u64; 7] = [0; 7];
+    if !first(&row, &mut index) {
         return Extent {
             dims: shape.dims,
             mods: shape.mods,
@@ -47,21 +50,19 @@ fn extent_of(p: Pattern, width: u64) -> Extent
             last: Bytes(0),
         };
     }
-    let mut index = from;
+    let from = address(&row, &places, width, &index);
     let mut position: u64 = 0;
     loop {
-        let t = next(shape, index);
-        if !t.found {
+        let here = index;
+        if !next(&row, &mut index) {
             return Extent {
                 dims: shape.dims,
                 mods: shape.mods,
                 elements: position + 1,
-                first: address(p, width, from),
-                last: address(p, width, index),
+                first: from,
+                last: address(&row, &places, width, &here),
             };
         }
-        let to = t.index;
-        index = to;
         position += 1;
     }
 }

@@ -1,17 +1,18 @@
 // The rules on a shape's descriptors: low, high, product.
-use crate::gain::gained;
+use crate::gain::gains;
+use crate::row::shape_row;
 use crate::stream::Shape;
-use codec::operation::Behaviour;
 use codec::operation::Parameter;
 ghost use mathlib.Core.Path.{_≡_};
 ghost use mathlib.Core.Bool.{false};
-ghost use Prim.Native.Nat.{ℕ, suc, max, _<_, _≤_};
-ghost use lib.ListN.{getD, drop};
+ghost use Prim.Native.Nat.{suc, max, _<_};
+ghost use lib.ListN.{drop};
 ghost use lib.Dec.{ltb};
 ghost use lib.Signed.{nonNeg};
 ghost use Rattle.engine.specs.Rules.{lastIndex, highAt, lowAt, lowOrHigh, product, highsOf};
 ghost use Rattle.engine.specs.AddressLaws.{Small};
 ghost use Rattle.engine.specs.Good.{Ranged};
+ghost use Rattle.engine.specs.Rows.{shapeIn};
 
 // The larger of two numbers.
 fn larger(a: u64, b: u64) -> u64
@@ -30,24 +31,24 @@ fn last_index(high: u64) -> u64
     larger(1, high) - 1
 }
 
-// The high of dimension `d`, where `lasts` are the last indices of the dimensions outside it.
-fn high_at(s: Shape, lasts: [u64; 7], d: usize) -> u64
-    requires { ⌜ Ranged s × (d < 7) × Small lasts ⌝ }
-    ensures { λ r. ⌜ r ≡ highAt s d (drop (suc d) lasts) ⌝ }
+// The high of dimension `d` of the shape in a row, where `lasts` are the last indices of the dimensions outside it.
+fn high_at(shape: &[u64; 51], lasts: &[u64; 7], d: usize) -> u64
+    requires { ⌜ Ranged (shapeIn (now shape)) × (d < 7) × Small (now lasts) ⌝ }
+    ensures { λ r. ⌜ r ≡ highAt (shapeIn (now (shape .entry))) d (drop (suc d) (now (lasts .entry))) ⌝ }
 {
-    let sizes = s.sizes;
-    let size = sizes[d];
-    size + gained(s, Parameter::Size, Behaviour::Add, lasts, d)
+    let size = shape[d];
+    let g = gains(shape, Parameter::Size, lasts, d);
+    size + g.up
 }
 
 // Whether its low is 0 or more.
-fn low_holds(s: Shape, lasts: [u64; 7], d: usize) -> bool
-    requires { ⌜ Ranged s × (d < 7) × Small lasts ⌝ }
-    ensures { λ r. ⌜ r ≡ nonNeg (lowAt s d (drop (suc d) lasts)) ⌝ }
+fn low_holds(shape: &[u64; 51], lasts: &[u64; 7], d: usize) -> bool
+    requires { ⌜ Ranged (shapeIn (now shape)) × (d < 7) × Small (now lasts) ⌝ }
+    ensures { λ r. ⌜ r ≡ nonNeg (lowAt (shapeIn (now (shape .entry))) d (drop (suc d) (now (lasts .entry)))) ⌝ }
 {
-    let sizes = s.sizes;
-    let size = sizes[d];
-    gained(s, Parameter::Size, Behaviour::Subtract, lasts, d) <= size
+    let size = shape[d];
+    let g = gains(shape, Parameter::Size, lasts, d);
+    g.down <= size
 }
 
 // Whether some low is below 0 or some high above 4,096: from the outermost dimension inward, up to the first such.
@@ -55,14 +56,15 @@ pub(crate) fn low_or_high(s: Shape) -> bool
     requires { ⌜ Ranged s ⌝ }
     ensures { λ r. ⌜ r ≡ lowOrHigh s ⌝ }
 {
+    let row = shape_row(s);
     let mut lasts: [u64; 7] = [0; 7];
-    let mut d = s.dims;
+    let mut d = row[7] as usize;
     while 0 < d {
         d -= 1;
-        if !low_holds(s, lasts, d) {
+        if !low_holds(&row, &lasts, d) {
             return true;
         }
-        let high = high_at(s, lasts, d);
+        let high = high_at(&row, &lasts, d);
         if 4096 < high {
             return true;
         }
@@ -77,12 +79,13 @@ pub(crate) fn product_over(s: Shape) -> bool
     requires { ⌜ Ranged s × (lowOrHigh s ≡ false) ⌝ }
     ensures { λ r. ⌜ r ≡ ltb 1048576 (product (highsOf s)) ⌝ }
 {
+    let row = shape_row(s);
     let mut lasts: [u64; 7] = [0; 7];
     let mut over: u64 = 1;
-    let mut d = s.dims;
+    let mut d = row[7] as usize;
     while 0 < d {
         d -= 1;
-        let high = high_at(s, lasts, d);
+        let high = high_at(&row, &lasts, d);
         over = over * larger(1, high);
         if 1048576 < over {
             return true;

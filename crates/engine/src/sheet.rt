@@ -1,6 +1,7 @@
 // The operations of a sheet, in order, up to its end, its run or a refusal.
 use crate::check::Why;
-use crate::configure::configure;
+use crate::configure::apply;
+use crate::configure::register_of;
 use crate::question::has_stream;
 use crate::register::Machine;
 use crate::register::is_load;
@@ -16,7 +17,6 @@ use codec::operation::decode_calculation;
 use codec::refusal::Refusal;
 ghost use mathlib.Core.Path.{_≡_};
 ghost use Prim.Native.Nat.{ℕ, _≤_, _<_};
-ghost use lib.ListN.{length, take};
 ghost use Rattle.engine.specs.Good.{AllGood};
 ghost use Rattle.engine.specs.Sheets.{bodyAt, names, isLoopRegister, endingOf, operationsFrom};
 ghost use Rattle.engine.specs.Bodies.{bodyOf, calculationsOf, endingIs, preparedIs, turnOf};
@@ -205,7 +205,7 @@ pub(crate) fn operations(s: &[u8], most: usize, m: Machine) -> Prepared
     ensures { λ r. ⌜ (preparedIs r ≡ operationsFrom most (now (s .entry)) 0 m) × (r .body .count ≤ 16) ⌝ }
 {
     let body = no_steps();
-    let mut machine = m;
+    let mut registers = m.registers;
     let mut at = 0;
     let mut left = most;
     while 0 < left {
@@ -213,7 +213,7 @@ pub(crate) fn operations(s: &[u8], most: usize, m: Machine) -> Prepared
             return Prepared {
                 ending: Ending::Over,
                 body,
-                machine,
+                machine: Machine { registers },
             };
         }
         let place = at;
@@ -222,12 +222,13 @@ pub(crate) fn operations(s: &[u8], most: usize, m: Machine) -> Prepared
                 return Prepared {
                     ending: Ending::Refused(refusal, p),
                     body,
-                    machine,
+                    machine: Machine { registers },
                 };
             }
             Decoded::Operation(o, next) => {
                 let turn = turn_of(o);
                 if let Turn::Run(register, n) = turn {
+                    let machine = Machine { registers };
                     let e = run_ending(s, place, register, n as usize, next.at, machine);
                     let ending = e.ending;
                     let steps = e.body;
@@ -237,17 +238,19 @@ pub(crate) fn operations(s: &[u8], most: usize, m: Machine) -> Prepared
                         machine,
                     };
                 }
-                let q = configure(machine, o);
+                let i = register_of(o);
+                let r = registers[i];
+                let q = apply(o, r);
                 let why = q.why;
                 if let Why::Because(x) = why {
                     return Prepared {
                         ending: Ending::Refused(x, place),
                         body,
-                        machine,
+                        machine: Machine { registers },
                     };
                 }
-                let after = q.machine;
-                machine = after;
+                let after = q.register;
+                registers[i] = after;
                 at = next.at;
                 left -= 1;
             }
@@ -256,6 +259,6 @@ pub(crate) fn operations(s: &[u8], most: usize, m: Machine) -> Prepared
     Prepared {
         ending: Ending::Over,
         body,
-        machine,
+        machine: Machine { registers },
     }
 }

@@ -1,10 +1,10 @@
 // The states, kinds and widths of a calculation's three registers: 5, 11, 10 and 12.
 use crate::check::Why;
-use crate::register::Register;
 use crate::register::is_configuring;
 use crate::register::is_finished;
 use crate::register::is_load;
 use crate::register::is_open;
+use crate::running::Running;
 use codec::refusal::Refusal;
 ghost use mathlib.Core.Path.{_≡_};
 ghost use mathlib.Core.Bool.{not, _&&_, _||_};
@@ -13,10 +13,11 @@ ghost use lib.Dec.{eqb};
 ghost use Rattle.engine.specs.Registers.{openLoad, openStore};
 ghost use Rattle.engine.specs.Checks.{firstOf};
 ghost use Rattle.engine.specs.Calculate.{sourceChecks, destinationChecks};
+ghost use Rattle.engine.specs.Runnings.{bare};
 
 // Why a register cannot be a source: 5, 11, 10.
-fn why_source(r: Register) -> Why
-    ensures { λ q. ⌜ q ≡ firstOf (sourceChecks r) ⌝ }
+fn why_source(r: Running) -> Why
+    ensures { λ q. ⌜ q ≡ firstOf (sourceChecks (bare r)) ⌝ }
 {
     let k = r.state;
     if is_configuring(k) {
@@ -32,8 +33,8 @@ fn why_source(r: Register) -> Why
 }
 
 // Why a register cannot be a destination: 5, 11, 10.
-fn why_destination(r: Register) -> Why
-    ensures { λ q. ⌜ q ≡ firstOf (destinationChecks r) ⌝ }
+fn why_destination(r: Running) -> Why
+    ensures { λ q. ⌜ q ≡ firstOf (destinationChecks (bare r)) ⌝ }
 {
     let state = r.state;
     if is_configuring(state) {
@@ -48,8 +49,8 @@ fn why_destination(r: Register) -> Why
     Why::Nothing
 }
 
-fn open_load(r: Register) -> bool
-    ensures { λ q. ⌜ q ≡ openLoad r ⌝ }
+fn open_load(r: Running) -> bool
+    ensures { λ q. ⌜ q ≡ openLoad (bare r) ⌝ }
 {
     let s = r.state;
     let k = r.kind;
@@ -59,8 +60,8 @@ fn open_load(r: Register) -> bool
     false
 }
 
-pub(crate) fn open_store(r: Register) -> bool
-    ensures { λ q. ⌜ q ≡ openStore r ⌝ }
+pub(crate) fn open_store(r: Running) -> bool
+    ensures { λ q. ⌜ q ≡ openStore (bare r) ⌝ }
 {
     let s = r.state;
     let k = r.kind;
@@ -71,8 +72,8 @@ pub(crate) fn open_store(r: Register) -> bool
 }
 
 // Why the states of the three registers do not fit: first source, second source, destination in turn.
-pub(crate) fn why_states(a: Register, b: Register, d: Register) -> Why
-    ensures { λ q. ⌜ q ≡ firstOf (sourceChecks a ++ sourceChecks b ++ destinationChecks d) ⌝ }
+pub(crate) fn why_states(a: Running, b: Running, d: Running) -> Why
+    ensures { λ q. ⌜ q ≡ firstOf (sourceChecks (bare a) ++ sourceChecks (bare b) ++ destinationChecks (bare d)) ⌝ }
 {
     let x = why_source(a);
     let Why::Nothing = x else {
@@ -86,8 +87,8 @@ pub(crate) fn why_states(a: Register, b: Register, d: Register) -> Why
 }
 
 // Whether widths differ: 12.
-pub(crate) fn widths_differ(a: Register, b: Register, d: Register) -> bool
-    ensures { λ q. ⌜ q ≡ (not (eqb (a .width) (b .width)) || openStore d && not (eqb (a .width) (d .width))) ⌝ }
+pub(crate) fn widths_differ(a: Running, b: Running, d: Running) -> bool
+    ensures { λ q. ⌜ q ≡ (not (eqb (a .width) (b .width)) || openStore (bare d) && not (eqb (a .width) (d .width))) ⌝ }
 {
     if a.width != b.width {
         return true;

@@ -1,92 +1,62 @@
 // The walk over a stream's loops: from any element to the next, past empty passes, with no list built.
-use crate::gain::gain_from;
-use crate::size::less;
-use crate::stream::Shape;
-use codec::operation::Behaviour;
-use codec::operation::Parameter;
+use crate::size::size_at;
 ghost use mathlib.Core.Path.{_≡_};
-ghost use mathlib.Core.List.{[], _∷_, map};
-ghost use mathlib.Core.Bool.{Bool, true, cond};
-ghost use Prim.Native.Nat.{ℕ, suc, _+_, _<_, _≤_};
+ghost use mathlib.Core.List.{[], _∷_};
+ghost use mathlib.Core.Bool.{cond};
+ghost use Prim.Native.Nat.{ℕ, suc, _<_, _≤_};
 ghost use lib.ListN.{getD, drop, length};
-ghost use lib.Dec.{ltb};
 ghost use Rattle.engine.specs.Loops.{sizeAt, elements};
 ghost use Rattle.engine.specs.Registers.{indexOf};
 ghost use Rattle.engine.specs.Good.{Accepted};
 ghost use Rattle.engine.specs.BoundLaws.{Under};
+ghost use Rattle.engine.specs.Rows.{shapeIn};
 ghost use Rattle.engine.specs.Walk.{at, after, Element, Stands};
 
-// What a search found: an element, or that there is none.
-pub(crate) struct Sought {
-    pub found: bool,
-    pub index: [u64; 7],
-}
-
-// The first element to come, where dimension start is about to run the index that it has. The size of each dimension on the way is
-// reckoned here, as `size_at` does it, so that nothing is handed on at a turn.
-pub(crate) fn seek(s: Shape, index: [u64; 7], start: usize) -> Sought
-    requires { ⌜ Accepted s × (start < s .dims) ⌝ }
-    requires { ⌜ ((k : ℕ) → getD index k 0 ≤ 4096) × Under s (suc start) (drop (suc start) index) ⌝ }
-    ensures { λ r. ⌜ at (sizeAt s) (s .dims) start index ≡ cond (r .found) (r .index ∷ after (sizeAt s) (s .dims) (r .index)) [] ⌝ }
+// To the first element to come, where dimension start is about to run the index that it has: whether there is one. The indices move in
+// place.
+fn seek(shape: &[u64; 51], index: &mut [u64; 7], start: usize) -> bool
+    requires { ⌜ Accepted (shapeIn (now shape)) × (start < shapeIn (now shape) .dims) × (length (now index) ≡ 7) ⌝ }
+    requires { ⌜ ((k : ℕ) → getD (now index) k 0 ≤ 4096) × Under (shapeIn (now shape)) (suc start) (drop (suc start) (now index)) ⌝ }
+    ensures { λ found. ⌜ at (sizeAt (shapeIn (now (shape .entry)))) (shapeIn (now (shape .entry)) .dims) start (now (index .entry)) ≡ cond found (now (index .exit) ∷ after (sizeAt (shapeIn (now (shape .entry)))) (shapeIn (now (shape .entry)) .dims) (now (index .exit))) [] ⌝ }
 {
-    let sizes = s.sizes;
-    let modifiers = s.modifiers;
-    let mut v = index;
+    let dims = shape[7] as usize;
     let mut d = start;
-    let n = s.dims;
     loop {
-        let i = v[d];
-        let mut up = sizes[d];
-        let mut down: u64 = 0;
-        let mut k = 0;
-        while k < s.mods {
-            let m = modifiers[k];
-            let owner = m.owner;
-            let from = v[owner];
-            up += gain_from(m, Parameter::Size, Behaviour::Add, from, d);
-            down += gain_from(m, Parameter::Size, Behaviour::Subtract, from, d);
-            k += 1;
-        }
-        let size = less(up, down);
+        let i = index[d];
+        let size = size_at(shape, &*index, d);
         if i < size {
             if d == 0 {
-                return Sought {
-                    found: true,
-                    index: v,
-                };
+                return true;
             }
             d -= 1;
-            v[d] = 0;
+            index[d] = 0;
         } else {
             d += 1;
-            if n <= d {
-                return Sought {
-                    found: false,
-                    index: v,
-                };
+            if dims <= d {
+                return false;
             }
-            let j = v[d];
-            v[d] = j + 1;
+            let j = index[d];
+            index[d] = j + 1;
         }
     }
 }
 
-// The first element of a stream.
-pub(crate) fn first(s: Shape) -> Sought
-    requires { ⌜ Accepted s ⌝ }
-    ensures { λ r. ⌜ Stands s 0 (r .found) (r .index) ⌝ }
+// To the first element of the stream in a row.
+pub(crate) fn first(shape: &[u64; 51], index: &mut [u64; 7]) -> bool
+    requires { ⌜ Accepted (shapeIn (now shape)) ⌝ }
+    ensures { λ found. ⌜ Stands (shapeIn (now (shape .entry))) 0 found (now (index .exit)) ⌝ }
 {
-    let n = s.dims;
-    seek(s, [0; 7], n - 1)
+    *index = [0; 7];
+    let n = shape[7] as usize;
+    seek(shape, index, n - 1)
 }
 
-// The element after the one at an index, whatever position it has.
-pub(crate) fn next(s: Shape, index: [u64; 7]) -> Sought
-    requires { ⌜ Accepted s × Element s index ⌝ }
-    ensures { λ r. ⌜ ((k : ℕ) → k < length (elements s) → index ≡ indexOf (getD (elements s) k []) → Stands s (suc k) (r .found) (r .index)) ⌝ }
+// To the element after the one at an index, whatever position it has.
+pub(crate) fn next(shape: &[u64; 51], index: &mut [u64; 7]) -> bool
+    requires { ⌜ Accepted (shapeIn (now shape)) × Element (shapeIn (now shape)) (now index) ⌝ }
+    ensures { λ found. ⌜ ((k : ℕ) → k < length (elements (shapeIn (now (shape .entry)))) → now (index .entry) ≡ indexOf (getD (elements (shapeIn (now (shape .entry)))) k []) → Stands (shapeIn (now (shape .entry))) (suc k) found (now (index .exit))) ⌝ }
 {
-    let mut v = index;
-    let i = v[0];
-    v[0] = i + 1;
-    seek(s, v, 0)
+    let i = index[0];
+    index[0] = i + 1;
+    seek(shape, index, 0)
 }

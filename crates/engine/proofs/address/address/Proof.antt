@@ -7,15 +7,19 @@ use native.Mathlib.Numerals.{add-one}
 use lib.ListN.{getD, drop}
 use lib.IntN.{natAbs, _+ℤ_}
 use Rattle.engine.specs.Addresses.{offsetAt, strideAt, inBytes, addressUpTo}
+use Rattle.engine.specs.Rows.{patternIn}
 use Rattle.engine.specs.declared.stream.Pattern.{Pattern}
+use Rattle.engine.proofs.RowReads.{base-read}
+use borrow.Author.Needs.{needs}
 use Rattle.engine.proofs.address.address.Statement.{statement}
 use Rattle.engine.proofs.address.address.Tie as tie
 
 abbrev Inv-loop : tie.InvT-loop
-Inv-loop p width index n sum₀ d₀ sum d = (d ≤ n) × (n ≤ 7) × (sum .0 ≡ addressUpTo p width index d) × (natAbs (sum .0) ≤ 2 ^ 20 + d * 2 ^ 52)
+Inv-loop shape places width index n sum₀ d₀ sum d =
+    (d ≤ n) × (n ≤ 7) × (sum .0 ≡ addressUpTo (patternIn shape places) width index d) × (natAbs (sum .0) ≤ 2 ^ 20 + d * 2 ^ 52)
 
 abbrev μ-loop : tie.MeasureT-loop
-μ-loop p width index n sum₀ d₀ sum d = n - d
+μ-loop shape places width index n sum₀ d₀ sum d = n - d
 
 up-to-none : (p : Pattern) (width : ℕ) (v : List ℕ) → p .base .0 ≡ addressUpTo p width v 0
 unfolding addressUpTo
@@ -26,8 +30,18 @@ up-to-next : (p : Pattern) (width : ℕ) (v : List ℕ) (d : ℕ)
 unfolding addressUpTo
 up-to-next p width v d = rw (add-one d)
 
+element-copy-out-n : tie.Need-element-copy-out-n Inv-loop μ-loop
+element-copy-out-n c = search needs
+
+element-copy-out-t14 : tie.Need-element-copy-out-t14 Inv-loop μ-loop
+element-copy-out-t14 c = search needs
+
 loop-holds : tie.Need-loop-holds Inv-loop μ-loop
-loop-holds c = (omega arith, c .before .before .pre .0 .shape .dims, up-to-none (c .before .before .args .p) (c .before .before .args .width) (c .before .before .args .index), omega (arith, c .before .before .pre .0 .base))
+loop-holds c =
+    let s = c .before .before in
+    let p = patternIn (s .args .shape .now) (s .args .places .now) in
+    let e = base-read (s .args .shape .now) (s .args .places .now) (s .pre .0) in
+    (omega arith, s .pre .0 .shape .dims, e ∙ up-to-none p (s .args .width) (s .args .index .now), omega (arith, s .pre .0 .base, ap natAbs e))
 
 term-requires : tie.Need-term-requires Inv-loop μ-loop
 term-requires c κs =
@@ -46,11 +60,13 @@ loop-again : tie.Need-loop-again Inv-loop μ-loop
 loop-again c =
     let s = c .before .before .before .before .before .before in
     let l = c .before .before .before .loop in
+    let p = patternIn (s .args .shape .now) (s .args .places .now) in
+    let v = s .args .index .now in
     let t = c .before .term .result .0 in
-    let e : l .sum .0 +ℤ t ≡ addressUpTo (s .args .p) (s .args .width) (s .args .index) (l .d + 1) =
+    let e : l .sum .0 +ℤ t ≡ addressUpTo p (s .args .width) v (l .d + 1) =
     ap (λ x. x +ℤ t) (l .inv .2)
-    ∙ ap (λ x. addressUpTo (s .args .p) (s .args .width) (s .args .index) (l .d) +ℤ x) (c .before .term .ensures .exact)
-    ∙ sym (up-to-next (s .args .p) (s .args .width) (s .args .index) (l .d)) in
+    ∙ ap (λ x. addressUpTo p (s .args .width) v (l .d) +ℤ x) (c .before .term .ensures .exact)
+    ∙ sym (up-to-next p (s .args .width) v (l .d)) in
     let n = c .before .term .ensures .most in
     let m = c .plus .ensures .most in
     (omega arith, omega arith, c .plus .ensures .exact ∙ e, omega arith)
@@ -58,8 +74,9 @@ loop-again c =
 returns : tie.Need-returns Inv-loop μ-loop
 returns c =
     let s = c .before .before .before .before in
-    let e : c .before .loop .d ≡ s .args .p .shape .dims = omega arith in
-    record { exact = c .before .loop .inv .2 ∙ ap (addressUpTo (s .args .p) (s .args .width) (s .args .index)) e; most = omega arith }
+    let p = patternIn (s .args .shape .now) (s .args .places .now) in
+    let e : c .before .loop .d ≡ p .shape .dims = omega arith in
+    record { exact = c .before .loop .inv .2 ∙ ap (addressUpTo p (s .args .width) (s .args .index .now)) e; most = omega arith }
 
 pub address-spec : {M : Type 1} → statement M
 address-spec =
@@ -67,6 +84,8 @@ address-spec =
     (tie.spec
     Inv-loop
     μ-loop
+    element-copy-out-n
+    element-copy-out-t14
     loop-holds
     term-requires
     plus-requires

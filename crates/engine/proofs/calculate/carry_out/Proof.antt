@@ -1,91 +1,95 @@
--- `calculate::carry_out` meets its contract: both sources are read before anything is written.
-use mathlib.Core.Path.{_≡_, refl, sym, _∙_, subst}
-use Prim.Native.Nat.{ℕ, _*_, _≤_}
+-- `calculate::carry_out` meets its contract: the lanes read, calculated and written are those of the operands.
+use Prim.Native.Nat.{_*_}
+use mathlib.Core.Path.{refl, sym, _∙_, ap, ap₂}
 use mathlib.Core.Bool.{cond}
-use Rattle.engine.specs.declared.register.Register.{Register}
-use Rattle.engine.specs.declared.operand.Operand.{Operand}
-use Rattle.engine.specs.Good.{IsWidth}
-use Rattle.engine.specs.GoodLaws.{width-some, width-most}
-use Rattle.engine.specs.Plans.{laneList, Narrow}
-use Rattle.engine.specs.Operands.{Fitting}
-use Rattle.engine.proofs.LaneCounts.{few-lanes}
+use native.Mathlib.Omega.{arith}
+use Rattle.engine.specs.ByteLaws.{Bytewise}
+use Rattle.engine.specs.Lanes.{lane, lanewise}
+use Rattle.engine.specs.LaneLaws.{width-range}
+use Rattle.engine.specs.Memory.{lanesFrom, packed}
+use Rattle.engine.specs.Stretches.{fetchedAt, storedAt}
+use Rattle.engine.specs.Runnings.{filledWith}
+use Rattle.engine.specs.Calculations.{listedIn}
+use Rattle.engine.proofs.Carrying.{chunk-same, read-back, result-back}
 use borrow.Author.Needs.{needs}
 use Rattle.engine.proofs.calculate.carry_out.Statement.{statement}
 use Rattle.engine.proofs.calculate.carry_out.Tie as tie
 
-span : {w : ℕ} → IsWidth w → (1 ≤ w) × (w ≤ 8)
-span {w} h = (width-some w h, width-most w h)
+read-on-requires : tie.Need-read-on-requires
+read-on-requires c κs = let w = c .before .before .before .pre .0 in ((width-range _ (w .wide), (w .room, w .near .0)), w .first)
 
-other : {len : ℕ} {a b d : Register} {x y z : Operand} → Fitting len a b d x y z → IsWidth (b .width)
-other f = subst IsWidth (sym (f .second)) (f .first)
-
-lanes-of-requires : tie.Need-lanes-of-requires
-lanes-of-requires c κs =
-    let f = c .before .before .pre in
-    ((span (f .first), f .plain .0), (f .few .0, f .insideFirst))
-
-lanes-of-requires-2 : tie.Need-lanes-of-requires-2
-lanes-of-requires-2 c κs =
-    let f = c .before .before .before .before .pre in
-    ((span (other f), f .plain .1), (f .few .1, f .insideSecond))
-
--- how many lanes each source gave
-firsts : (c : tie.After-lanes-of2) → let a = c .before .before .before .before .before .args in c .before .before .lanes-of .result .count ≡ cond (a .x .live) (a .x .count) (a .a .valid)
-firsts c = c .before .before .lanes-of .ensures .1 .0
-
-seconds : (c : tie.After-lanes-of2) → let a = c .before .before .before .before .before .args in c .lanes-of2 .result .count ≡ cond (a .y .live) (a .y .count) (a .b .valid)
-seconds c = c .lanes-of2 .ensures .1 .0
-
-combine-requires : tie.Need-combine-requires
-combine-requires c κs =
-    let f = c .before .before .before .before .before .pre in (
-      (span (f .first), (firsts c ∙ sym (f .counts .1) ∙ sym (seconds c), few-lanes _ _ (span (f .first) .0) (rw (← firsts c) at (f .counts .0)))),
-      (c .before .before .lanes-of .ensures .1 .1, subst (λ w. Narrow w (laneList (c .lanes-of2 .result))) (f .second) (c .lanes-of2 .ensures .1 .1)),
+read-second-requires : tie.Need-read-second-requires
+read-second-requires c κs =
+    let a = c .before .before .before .before .before .before .before in
+    let w = a .pre .0 in
+    let r = c .before .before .before .read-on in
+    let m = a .args .memory .now in
+    let width = a .args .width in (
+      (width-range _ (w .wide), (omega (arith, w .room, ap (λ n. n * width) (w .counts)), w .near .1 .0)),
+      (
+        w .second,
+        λ t.
+            let e = a .pre .1 t in (
+              r .ensures .0 ∙ (λ i. cond (sym (e .0) i .live) (filledWith width (sym (e .0) i .count) (sym (e .0) i .after)) (sym (e .0) i .after)),
+              r .ensures .1 ∙ (λ i. cond (sym (e .0) i .live) (packed width (fetchedAt m width (sym (e .1 .0) i))) (sym (e .1 .1) i)),
+            ),
+      ),
     )
 
+look-at-requires : tie.Need-look-at-requires
+look-at-requires c κs = tt
+
+look-at-requires-2 : tie.Need-look-at-requires-2
+look-at-requires-2 c κs = tt
+
+combine-lanes-requires : tie.Need-combine-lanes-requires
+combine-lanes-requires c κs = let w = c .before .before .before .before .before .before .before .before .before .before .before .before .before .before .before .before .before .pre .0 in (width-range _ (w .wide), w .room)
+
 write-on-requires : tie.Need-write-on-requires
-write-on-requires c κs =
-    let f = c .before .before .before .before .before .before .before .pre in
-    let n : c .before .combine .result .count ≡ _ = c .before .combine .ensures .0 ∙ firsts (c .before .before) in
-    ((span (f .third), few-lanes _ _ (span (f .first) .0) (rw (← n) at (f .counts .0))), λ t. (f .room t ∙ sym n, f .insideThird t))
-
-read-on-requires : tie.Need-read-on-requires
-read-on-requires c κs = (span (c .before .before .before .before .before .before .before .before .before .before .pre .first), rw (← firsts (c .before .before .before .before .before)) at (c .before .before .before .before .before .before .before .before .before .before .pre .counts .0))
-
-read-on-requires-2 : tie.Need-read-on-requires-2
-read-on-requires-2 c κs =
-    let f = c .before .before .before .before .before .before .before .before .before .before .before .pre in
-    (span (other f), subst (λ w. c .before .before .before .before .before .before .lanes-of2 .result .count * w ≤ 64) (sym (f .second)) (rw (← seconds (c .before .before .before .before .before .before) ∙ f .counts .1) at (f .counts .0)))
-
-written-on-requires : tie.Need-written-on-requires
-written-on-requires c κs = (span (c .before .before .before .before .before .before .before .before .before .before .before .before .pre .first), rw (← (c .before .before .before .before .before .before .combine .ensures .0 ∙ firsts (c .before .before .before .before .before .before .before))) at (c .before .before .before .before .before .before .before .before .before .before .before .before .pre .counts .0))
+write-on-requires c κs = let w = c .before .before .before .before .before .before .before .before .before .before .before .before .before .before .before .before .before .before .before .before .before .pre .0 in ((width-range _ (w .wide), (w .room, w .near .1 .1)), λ t. (w .fills t, w .third t))
 
 same-length : tie.Need-same-length
 same-length c = search needs
 
 returns : tie.Need-returns
 returns c =
-    let e = c .before .before .before .before .before .before .before .combine .ensures .1 .0 in
-    let p = c .before .before .before .before .before .before .before .before .before .before .lanes-of .ensures .0 in
-    let q = c .before .before .before .before .before .before .before .before .lanes-of2 .ensures .0 in
+    let a = c .before .before .before .before .before .before .before .before .before .before .before .before .before .before .before .before .before .before .before .before .before .before .before .before in
+    let w = a .pre .0 in
+    let m = a .args .memory .now in
+    let width = a .args .width in
+    let x = a .args .x in
+    let y = a .args .y in
+    let n = x .count in
+    let r = c .before .before .before .before .before .before .before .before .before .before .before .before .before .before .before .before .before .before .before .before .read-on in
+    let s = c .before .before .before .before .before .before .before .before .before .before .before .before .before .before .before .before .read-second in
+    let o = c .before .before .before .before .before .before .combine-lanes in
+    let d = c .before .before .write-on in
+    let first = r .last .1 .1 .1 .1 .0 in
+    let second = s .last .1 .1 .1 .1 .1 .1 .1 .0 in
+    let b : Bytewise m = λ i. c .before .before .before .before .before .before .before .before .before .before .before .before .before .before .before .before .before .before .before .before .before .before .before .slice-known .given i .fits in
+    let p = read-back width n m x (a .args .xs .now) (a .args .la .now) first refl (w .room) (w .firstLong) b (r .ensures .1) in
+    let q = read-back width n m y (a .args .ys .now) (a .args .lb .now) second (w .counts) (w .room) (w .secondLong) b (s .ensures .1) in
+    let e = ap₂ (lanewise (lane (a .args .action) (8 * width))) p q in
     record {
-      done = refl;
-      read = rw p at (c .before .before .read-on .ensures);
-      other = rw q at (c .before .read-on2 .ensures);
-      written = rw (e, p, q) at (c .written-on .ensures);
-      stored = rw (e, p, q) at (c .before .before .before .before .before .write-on .ensures);
+      read = r .ensures .0;
+      chunk = r .ensures .1 ∙ chunk-same (x .live) width _ (lanesFrom (a .args .la .now) width 0 (x .count)) (a .args .la .now);
+      other = s .ensures .0;
+      otherChunk = s .ensures .1 ∙ chunk-same (y .live) width _ (lanesFrom (a .args .lb .now) width 0 (y .count)) (a .args .lb .now);
+      written = d .ensures .0;
+      content = d .ensures .1 .0 ∙ ap (λ l. cond (a .args .z .live) (a .args .ld .now) l) (o .ensures ∙ ap (packed width) e);
+      stored = d .ensures .1 .1 ∙ ap (λ l. cond (a .args .z .live) (storedAt m width (listedIn (a .args .z) (a .args .zs .now)) l) m)
+          (ap (λ l. lanesFrom l width 0 n) (o .ensures) ∙ result-back (a .args .action) width n first second (w .room) (c .before .before .before .before .before .before .before .before .before .before .before .before .before .look-at .ensures) (c .before .before .before .before .before .before .before .before .before .before .look-at2 .ensures) ∙ e);
     }
 
 pub carry-out-spec : {M : Type 1} → statement M
 carry-out-spec =
     tie.close
     (tie.spec
-    lanes-of-requires
-    lanes-of-requires-2
-    combine-requires
-    write-on-requires
     read-on-requires
-    read-on-requires-2
-    written-on-requires
+    read-second-requires
+    look-at-requires
+    look-at-requires-2
+    combine-lanes-requires
+    write-on-requires
     same-length
     returns)

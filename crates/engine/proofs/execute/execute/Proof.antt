@@ -1,12 +1,22 @@
 -- `execute::execute` meets its contract: between passes what follows gives what the whole run gives, and within one what is left of it.
 use native.Mathlib.Omega.{arith}
-use Prim.Native.Nat.{_-_, _≤_}
-use mathlib.Core.Path.{_≡_, sym, _∙_, ap}
+use Prim.Native.Nat.{ℕ, _+_, _-_, _≤_, _<_}
+use mathlib.Core.Path.{_≡_, refl, sym, _∙_, ap, subst}
+use mathlib.Core.List.{[]}
 use lib.ListN.{length, getD, take}
-use Rattle.engine.specs.Registers.{toCome, reg}
+use lib.Dec.{eqb}
+use Rattle.engine.specs.Registers.{isOpen, toCome, noRegister, reg}
+use Rattle.engine.specs.CalculationLaws.{Named}
+use Rattle.engine.specs.Rows.{patternAt}
+use Rattle.engine.specs.Runnings.{viewOf}
+use Rattle.engine.specs.Calculations.{Cleared, Within}
+use Rattle.engine.specs.Layouts.{noRunning, registersIn}
+use Rattle.engine.specs.LayoutLaws.{views-at, patterns-set}
 use Rattle.engine.proofs.PassSteps.{machineOf, Passing, passing, named-here, passing-on, passing-no, Passes, passes-begun, passes-over, passes-no, passes-fewer, passes-on}
+use Rattle.engine.proofs.Rounds.{Laid, fit-at, lanes-long, calculated-at, calculated, refused-so, remember-first, remember-second, remember-third, laid-on, views-on}
 use borrow.Author.Tests.{eqb-true}
-use Rattle.engine.specs.declared.run.Verdict.the-variants.{Refused}
+use Rattle.engine.specs.declared.run.Verdict.the-variants.{Done, Refused}
+use Rattle.engine.specs.declared.register.Register.{Register}
 use Rattle.engine.proofs.Lengths.{unmapped}
 use Rattle.engine.proofs.BodySteps.{noStep}
 use borrow.Author.Needs.{needs}
@@ -14,37 +24,54 @@ use Rattle.engine.proofs.execute.execute.Statement.{statement}
 use Rattle.engine.proofs.execute.execute.Tie as tie
 
 abbrev Inv-loop2 : tie.InvT-loop2
-Inv-loop2 vl register memory₀ n steps registers₀ passes calculations₀ «open» k₀ memory registers calculations k =
-    Passing vl n steps passes registers₀ memory₀ calculations₀ registers memory calculations k
+Inv-loop2 vl register m memory₀ n steps len shapes places lanes₀ indices₀ all₀ xs₀ ys₀ zs₀ passes calculations₀ «open» k₀ memory lanes indices all xs ys zs calculations k =
+    Passing vl n steps passes (registersIn shapes places lanes₀ indices₀ all₀) memory₀ calculations₀ (registersIn shapes places lanes indices all) memory calculations k
+    × Laid shapes places lanes indices all xs ys zs len memory
 
 abbrev μ-loop2 : tie.MeasureT-loop2
-μ-loop2 vl register memory₀ n steps registers₀ passes calculations₀ «open» k₀ memory registers calculations k =
+μ-loop2 vl register m memory₀ n steps len shapes places lanes₀ indices₀ all₀ xs₀ ys₀ zs₀ passes calculations₀ «open» k₀ memory lanes indices all xs ys zs calculations k =
     n - k
 
 abbrev Inv-loop : tie.InvT-loop
-Inv-loop vl register memory₀ n steps registers₀ passes₀ calculations₀ open₀ memory registers passes calculations «open» =
-    (n ≤ 16) × (length steps ≡ 16) × Passes vl register (take n steps) (record { machine = machineOf registers₀; memory = memory₀ }) registers memory passes calculations «open»
+Inv-loop vl register m memory₀ n steps len shapes places lanes₀ indices₀ all₀ xs₀ ys₀ zs₀ passes₀ calculations₀ open₀ memory lanes indices all xs ys zs passes calculations «open» =
+    (n ≤ 16) × (length steps ≡ 16) × Passes vl register (take n steps) (record { machine = m; memory = memory₀ }) (registersIn shapes places lanes indices all) memory passes calculations «open»
+    × Laid shapes places lanes indices all xs ys zs len memory
 
 abbrev μ-loop : tie.MeasureT-loop
-μ-loop vl register memory₀ n steps registers₀ passes₀ calculations₀ open₀ memory registers passes calculations «open» =
-    length (toCome (reg (machineOf registers) register))
+μ-loop vl register m memory₀ n steps len shapes places lanes₀ indices₀ all₀ xs₀ ys₀ zs₀ passes₀ calculations₀ open₀ memory lanes indices all xs ys zs passes calculations «open» =
+    length (toCome (reg (machineOf (registersIn shapes places lanes indices all)) register))
+
+-- the calculation at hand names registers
+named : (c : tie.In-loop2 Inv-loop2 μ-loop2 Inv-loop μ-loop) → Named (getD (c .before .before .before .before .before .before .before .before .before .before .before .before .before .args .body .steps) (c .before .loop2 .k) noStep .calculation)
+named c = named-here _ _ _ _ _ _ _ _ _ _ _ (c .before .loop2 .inv .0) (c .loop2-test .taken) (omega (arith, c .before .before .before .loop .inv .0, c .before .before .before .loop .inv .1))
+
+lay-out-requires : tie.Need-lay-out-requires Inv-loop2 μ-loop2 Inv-loop μ-loop
+lay-out-requires c κs = ((c .before .before .before .before .before .before .args .vl, c .before .before .before .before .before .before .pre .1 .1 .0), search needs)
 
 mul-looped : tie.Need-mul-looped Inv-loop2 μ-loop2 Inv-loop μ-loop
-mul-looped c = omega (arith, c .before .before .before .pre .0 .1 .0)
+mul-looped c = omega (arith, c .before .before .before .before .before .before .before .pre .0 .1 .0)
 
 array-copy-out-looped : tie.Need-array-copy-out-looped Inv-loop2 μ-loop2 Inv-loop μ-loop
-array-copy-out-looped c = c .before .before .before .pre .0 .1 .0
+array-copy-out-looped c = c .before .before .before .before .before .before .before .pre .0 .1 .0
 
 is-open-requires : tie.Need-is-open-requires Inv-loop2 μ-loop2 Inv-loop μ-loop
-is-open-requires c κs = search needs
+is-open-requires c κs = tt
 
 loop-holds : tie.Need-loop-holds Inv-loop2 μ-loop2 Inv-loop μ-loop
 loop-holds c =
-    let s = c .before .before .before .before .before in
-    (s .pre .0 .1 .1, search (needs, unmapped), passes-begun _ _ _ (s .args .m) _ _ (s .pre .0 .0 .0) (s .pre .0 .1 .0) (s .pre .1 .0) (s .pre .1 .1 .0) (s .pre .1 .1 .1) (c .is-open .ensures))
+    let s = c .before .before .before .before .before .before .before .before .before in
+    let y = c .before .before .lay-out in
+    let e = y .ensures .1 in (
+      s .pre .0 .1 .1,
+      search (needs, unmapped),
+      subst (λ rs. Passes (s .args .vl) (s .args .register) (take (s .args .body .count) (s .args .body .steps)) (record { machine = s .args .m; memory = s .args .memory .now }) rs (s .args .memory .now) 0 0 (c .is-open .result)) (sym e)
+          (passes-begun _ _ _ (s .args .m) _ _ (s .pre .0 .0 .0) (s .pre .0 .1 .0) (s .pre .1 .0) (s .pre .1 .1 .0) (s .pre .1 .1 .1)
+          (c .is-open .ensures ∙ ap (λ r. isOpen (r .state)) (sym (views-at (y .last .1 .0) (y .last .1 .1 .0) (y .last .1 .1 .1 .0) (y .last .1 .1 .1 .1 .0) (y .result) (s .args .register) (s .pre .0 .1 .0)) ∙ ap (λ rs. getD rs (s .args .register) noRegister) e))),
+      record { out = y .ensures .0; firsts = search needs; seconds = search needs; thirds = search needs; long = refl },
+    )
 
 loop2-holds : tie.Need-loop2-holds Inv-loop2 μ-loop2 Inv-loop μ-loop
-loop2-holds c = let o = c .before .loop .inv .2 .running in passing _ _ _ _ _ _ _ (o .named) (o .good)
+loop2-holds c = let o = c .before .loop .inv in (passing _ _ _ _ _ _ _ (o .2 .running .named) (o .2 .running .good), o .3)
 
 mul-step : tie.Need-mul-step Inv-loop2 μ-loop2 Inv-loop μ-loop
 mul-step c = omega (arith, c .loop2-test .taken, c .before .before .before .loop .inv .0)
@@ -53,102 +80,321 @@ array-copy-out-step : tie.Need-array-copy-out-step Inv-loop2 μ-loop2 Inv-loop �
 array-copy-out-step c = omega (arith, c .loop2-test .taken, c .before .before .before .loop .inv .0)
 
 mul-a : tie.Need-mul-a Inv-loop2 μ-loop2 Inv-loop μ-loop
-mul-a c = omega (arith, named-here _ _ _ _ _ _ _ _ _ _ _ (c .before .before .before .loop2 .inv) (c .before .before .loop2-test .taken) (omega (arith, c .before .before .before .before .before .loop .inv .0, c .before .before .before .before .before .loop .inv .1)) .first)
+mul-a c = omega (arith, named (c .before .before) .first)
 
 array-copy-out-a : tie.Need-array-copy-out-a Inv-loop2 μ-loop2 Inv-loop μ-loop
-array-copy-out-a c = named-here _ _ _ _ _ _ _ _ _ _ _ (c .before .before .before .loop2 .inv) (c .before .before .loop2-test .taken) (omega (arith, c .before .before .before .before .before .loop .inv .0, c .before .before .before .before .before .loop .inv .1)) .first
+array-copy-out-a c = named (c .before .before) .first
 
 mul-b : tie.Need-mul-b Inv-loop2 μ-loop2 Inv-loop μ-loop
-mul-b c = omega (arith, named-here _ _ _ _ _ _ _ _ _ _ _ (c .before .before .before .before .loop2 .inv) (c .before .before .before .loop2-test .taken) (omega (arith, c .before .before .before .before .before .before .loop .inv .0, c .before .before .before .before .before .before .loop .inv .1)) .second)
+mul-b c = omega (arith, named (c .before .before .before) .second)
 
 array-copy-out-b : tie.Need-array-copy-out-b Inv-loop2 μ-loop2 Inv-loop μ-loop
-array-copy-out-b c = named-here _ _ _ _ _ _ _ _ _ _ _ (c .before .before .before .before .loop2 .inv) (c .before .before .before .loop2-test .taken) (omega (arith, c .before .before .before .before .before .before .loop .inv .0, c .before .before .before .before .before .before .loop .inv .1)) .second
+array-copy-out-b c = named (c .before .before .before) .second
 
-mul-z : tie.Need-mul-z Inv-loop2 μ-loop2 Inv-loop μ-loop
-mul-z c = omega (arith, named-here _ _ _ _ _ _ _ _ _ _ _ (c .before .before .before .before .before .loop2 .inv) (c .before .before .before .before .loop2-test .taken) (omega (arith, c .before .before .before .before .before .before .before .loop .inv .0, c .before .before .before .before .before .before .before .loop .inv .1)) .destination)
+mul-d : tie.Need-mul-d Inv-loop2 μ-loop2 Inv-loop μ-loop
+mul-d c = omega (arith, named (c .before .before .before .before) .destination)
 
-array-copy-out-z : tie.Need-array-copy-out-z Inv-loop2 μ-loop2 Inv-loop μ-loop
-array-copy-out-z c = named-here _ _ _ _ _ _ _ _ _ _ _ (c .before .before .before .before .before .loop2 .inv) (c .before .before .before .before .loop2-test .taken) (omega (arith, c .before .before .before .before .before .before .before .loop .inv .0, c .before .before .before .before .before .before .before .loop .inv .1)) .destination
+array-copy-out-d : tie.Need-array-copy-out-d Inv-loop2 μ-loop2 Inv-loop μ-loop
+array-copy-out-d c = named (c .before .before .before .before) .destination
 
-calculate-requires : tie.Need-calculate-requires Inv-loop2 μ-loop2 Inv-loop μ-loop
-calculate-requires c κs =
-    let l = c .before .before .before .before .before .before .before .loop2 in
-    let nm = named-here _ _ _ _ _ _ _ _ _ _ _ (c .before .before .before .before .before .before .before .loop2 .inv) (c .before .before .before .before .before .before .loop2-test .taken) (omega (arith, c .before .before .before .before .before .before .before .before .before .loop .inv .0, c .before .before .before .before .before .before .before .before .before .loop .inv .1)) in (
-      (c .before .before .before .before .before .before .before .before .before .before .before .before .before .before .before .pre .0 .0, λ e. ap (reg (machineOf (l .registers))) (sym (eqb-true _ _ e))),
-      (l .inv .good .good _ (nm .first), (l .inv .good .good _ (nm .second), l .inv .good .good _ (nm .destination))),
+mul-va : tie.Need-mul-va Inv-loop2 μ-loop2 Inv-loop μ-loop
+mul-va c = omega (arith, named (c .before .before .before .before .before) .first)
+
+array-copy-out-va : tie.Need-array-copy-out-va Inv-loop2 μ-loop2 Inv-loop μ-loop
+array-copy-out-va c = named (c .before .before .before .before .before) .first
+
+mul-vb : tie.Need-mul-vb Inv-loop2 μ-loop2 Inv-loop μ-loop
+mul-vb c = omega (arith, named (c .before .before .before .before .before .before) .second)
+
+array-copy-out-vb : tie.Need-array-copy-out-vb Inv-loop2 μ-loop2 Inv-loop μ-loop
+array-copy-out-vb c = named (c .before .before .before .before .before .before) .second
+
+mul-vd : tie.Need-mul-vd Inv-loop2 μ-loop2 Inv-loop μ-loop
+mul-vd c = omega (arith, named (c .before .before .before .before .before .before .before) .destination)
+
+array-copy-out-vd : tie.Need-array-copy-out-vd Inv-loop2 μ-loop2 Inv-loop μ-loop
+array-copy-out-vd c = named (c .before .before .before .before .before .before .before) .destination
+
+check-calculation-requires : tie.Need-check-calculation-requires Inv-loop2 μ-loop2 Inv-loop μ-loop
+check-calculation-requires c κs =
+    let m = c .before .before .before .before .before .before .before .before .before .before .before .before .before .before .before .before in
+    let l = m .before .loop2 in
+    let o = m .before .before .before .loop in
+    let y = m .before .before .before .before .before .before .lay-out in
+    let a = m .before .before .before .before .before .before .before .before .before .before .before .before .before in
+    let sh = y .last .1 .0 in
+    let pl = y .last .1 .1 .0 in
+    let z = getD (a .args .body .steps) (l .k) noStep .calculation in
+    let n = named m in
+    let f = fit-at sh pl (l .lanes) (l .indices) (l .all) (l .inv .1 .out) (a .args .vl) (l .inv .0 .good) in (
+      ((a .pre .0 .0 .0, a .pre .0 .0 .1), (n .first, (n .second, n .destination))),
+      (
+        (l .inv .1 .firsts, (l .inv .1 .seconds, l .inv .1 .thirds)),
+        (
+          (f (z .first) (n .first), (f (z .second) (n .second), f (z .destination) (n .destination))),
+          λ t.
+              let e = sym (eqb-true (z .first) (z .second) t) in
+              (ap (λ i. getD (l .all) i noRunning) e, (e, ap (λ i. getD (l .indices) i []) e)),
+        ),
+      ),
     )
 
 enum-known-why : tie.Need-enum-known-why Inv-loop2 μ-loop2 Inv-loop μ-loop
 enum-known-why c = search needs
 
+-- what the checks found, beside this memory
+checked : (c : tie.After-check-calculation Inv-loop2 μ-loop2 Inv-loop μ-loop) →
+    let m = c .before .before .before .before .before .before .before .before .before .before .before .before .before .before .before .before .before in
+    let l = m .before .loop2 in
+    let o = m .before .before .before .loop in
+    let y = m .before .before .before .before .before .before .lay-out in
+    let a = m .before .before .before .before .before .before .before .before .before .before .before .before .before in
+    let sh = y .last .1 .0 in
+    let pl = y .last .1 .1 .0 in
+    let z = getD (a .args .body .steps) (l .k) noStep .calculation in
+    let n = named m in
+    let k = c .check-calculation in
+    Cleared (a .args .vl) (length (l .memory)) (eqb (z .first) (z .second)) (patternAt sh pl (z .first)) (patternAt sh pl (z .second)) (patternAt sh pl (z .destination)) (getD (l .all) (z .first) noRunning) (getD (l .all) (z .second) noRunning) (getD (l .all) (z .destination) noRunning)
+    (getD (l .indices) (z .first) []) (getD (l .indices) (z .second) []) (getD (l .indices) (z .destination) []) (k .last .1 .1 .1 .1 .1 .1 .1 .1 .1 .1 .1 .0) (k .last .1 .1 .1 .1 .1 .1 .1 .1 .1 .1 .1 .1 .0) (k .last .1 .1 .1 .1 .1 .1 .1 .1 .1 .1 .1 .1 .1 .0) (k .last .1 .1 .1 .1 .1 .1 .1 .1 .1 .1 .1 .1 .1 .1 .0) (k .last .1 .1 .1 .1 .1 .1 .1 .1 .1 .1 .1 .1 .1 .1 .1 .0) (k .last .1 .1 .1 .1 .1 .1 .1 .1 .1 .1 .1 .1 .1 .1 .1 .1 .0) (k .result)
+checked c =
+    let m = c .before .before .before .before .before .before .before .before .before .before .before .before .before .before .before .before .before in
+    let l = m .before .loop2 in
+    let o = m .before .before .before .loop in
+    let y = m .before .before .before .before .before .before .lay-out in
+    let a = m .before .before .before .before .before .before .before .before .before .before .before .before .before in
+    let sh = y .last .1 .0 in
+    let pl = y .last .1 .1 .0 in
+    let z = getD (a .args .body .steps) (l .k) noStep .calculation in
+    let n = named m in
+    let k = c .check-calculation in
+    subst (λ w. Cleared (a .args .vl) w (eqb (z .first) (z .second)) (patternAt sh pl (z .first)) (patternAt sh pl (z .second)) (patternAt sh pl (z .destination)) (getD (l .all) (z .first) noRunning) (getD (l .all) (z .second) noRunning) (getD (l .all) (z .destination) noRunning)
+    (getD (l .indices) (z .first) []) (getD (l .indices) (z .second) []) (getD (l .indices) (z .destination) []) (k .last .1 .1 .1 .1 .1 .1 .1 .1 .1 .1 .1 .0) (k .last .1 .1 .1 .1 .1 .1 .1 .1 .1 .1 .1 .1 .0) (k .last .1 .1 .1 .1 .1 .1 .1 .1 .1 .1 .1 .1 .1 .0) (k .last .1 .1 .1 .1 .1 .1 .1 .1 .1 .1 .1 .1 .1 .1 .0) (k .last .1 .1 .1 .1 .1 .1 .1 .1 .1 .1 .1 .1 .1 .1 .1 .0) (k .last .1 .1 .1 .1 .1 .1 .1 .1 .1 .1 .1 .1 .1 .1 .1 .1 .0) (k .result)) (sym (l .inv .1 .long)) (k .ensures .0)
+
+rejoined-requires : tie.Need-rejoined-requires Inv-loop2 μ-loop2 Inv-loop μ-loop
+rejoined-requires c κs =
+    let m = c .before .before .before .before .before .before .before .before .before .before .before .before .before .before .before .before .before .before .before .before .before .before .before .before in
+    let l = m .before .loop2 in
+    let o = m .before .before .before .loop in
+    let y = m .before .before .before .before .before .before .lay-out in
+    let a = m .before .before .before .before .before .before .before .before .before .before .before .before .before in
+    let sh = y .last .1 .0 in
+    let pl = y .last .1 .1 .0 in
+    let z = getD (a .args .body .steps) (l .k) noStep .calculation in
+    let n = named m in
+    (l .inv .1 .out, λ k h. ap (λ rs. getD rs k noRegister .pattern) (sym (y .ensures .1)) ∙ patterns-set sh pl (y .last .1 .1 .1 .0) (y .last .1 .1 .1 .1 .0) (y .result) k h)
+
 same-length : tie.Need-same-length Inv-loop2 μ-loop2 Inv-loop μ-loop
-same-length c = ap length (passing-no _ _ _ _ _ _ _ _ _ _ _ (c .before .before .before .before .before .before .before .before .before .before .before .before .before .loop2 .inv) (c .before .before .before .before .before .before .before .before .before .before .before .before .loop2-test .taken) (omega (arith, c .before .before .before .before .before .before .before .before .before .before .before .before .before .before .before .loop .inv .0, c .before .before .before .before .before .before .before .before .before .before .before .before .before .before .before .loop .inv .1)) _ _ _ _ _ (c .before .before .before .before .before .calculate .ensures) _ (c .before .why .given .1) .0) ∙ c .before .before .before .before .before .before .before .before .before .before .before .before .before .loop2 .inv .long ∙ c .before .before .before .before .before .before .before .before .before .before .before .before .before .before .before .loop .inv .2 .long
+same-length c = let m = c .before .before .before .before .before .before .before .before .before .before .before .before .before .before .before .before .before .before .before .before .before .before .before .before .before in m .before .loop2 .inv .0 .long ∙ m .before .before .before .loop .inv .2 .long
 
 returns : tie.Need-returns Inv-loop2 μ-loop2 Inv-loop μ-loop
 returns c =
-    let k = passing-no _ _ _ _ _ _ _ _ _ _ _ (c .before .before .before .before .before .before .before .before .before .before .before .before .before .loop2 .inv) (c .before .before .before .before .before .before .before .before .before .before .before .before .loop2-test .taken) (omega (arith, c .before .before .before .before .before .before .before .before .before .before .before .before .before .before .before .loop .inv .0, c .before .before .before .before .before .before .before .before .before .before .before .before .before .before .before .loop .inv .1)) _ _ _ _ _ (c .before .before .before .before .before .calculate .ensures) _ (c .before .why .given .1) in
-    let l = c .before .before .before .before .before .before .before .before .before .before .before .before .before .loop2 in
-    let o = c .before .before .before .before .before .before .before .before .before .before .before .before .before .before .before .loop in
-    let s = c .before .before .before .before .before .before .before .before .before .before .before .before .before .before .before .before .before .before .before .before .before .args .body in
-    (λ t. record { world = record { machine = machineOf (l .registers); memory = k .0 t }; report = record { passes = o .passes; calculations = l .calculations }; verdict = Refused (c .before .why .given .0 .0) (getD (s .steps) (l .k) noStep .place) })
-    ∙ passes-no _ _ _ _ _ _ _ _ _ _ (c .before .before .before .before .before .before .before .before .before .before .before .before .before .before .before .loop .inv .2) (c .before .before .before .before .before .before .before .before .before .before .before .before .before .before .loop-test .taken) _ _ _ _ (l .inv) _ _ (k .1)
+    let m = c .before .before .before .before .before .before .before .before .before .before .before .before .before .before .before .before .before .before .before .before .before .before .before .before .before in
+    let l = m .before .loop2 in
+    let o = m .before .before .before .loop in
+    let y = m .before .before .before .before .before .before .lay-out in
+    let a = m .before .before .before .before .before .before .before .before .before .before .before .before .before in
+    let sh = y .last .1 .0 in
+    let pl = y .last .1 .1 .0 in
+    let z = getD (a .args .body .steps) (l .k) noStep .calculation in
+    let n = named m in
+    let k = c .before .before .before .before .before .before .before .before .check-calculation in
+    let r : Register = noRegister in
+    let h = refused-so (a .args .vl) (eqb (z .first) (z .second)) (patternAt sh pl (z .first)) (patternAt sh pl (z .second)) (patternAt sh pl (z .destination)) (getD (l .all) (z .first) noRunning) (getD (l .all) (z .second) noRunning) (getD (l .all) (z .destination) noRunning)
+    (getD (l .indices) (z .first) []) (getD (l .indices) (z .second) []) (getD (l .indices) (z .destination) []) (k .last .1 .1 .1 .1 .1 .1 .1 .1 .1 .1 .1 .0) (k .last .1 .1 .1 .1 .1 .1 .1 .1 .1 .1 .1 .1 .0) (k .last .1 .1 .1 .1 .1 .1 .1 .1 .1 .1 .1 .1 .1 .0) (k .last .1 .1 .1 .1 .1 .1 .1 .1 .1 .1 .1 .1 .1 .1 .0) (k .last .1 .1 .1 .1 .1 .1 .1 .1 .1 .1 .1 .1 .1 .1 .1 .0) (k .last .1 .1 .1 .1 .1 .1 .1 .1 .1 .1 .1 .1 .1 .1 .1 .1 .0) (k .result)
+    (getD (l .lanes) (z .first) []) (getD (l .lanes) (z .second) []) (getD (l .lanes) (z .destination) []) (l .memory) (checked (c .before .before .before .before .before .before .before .before)) (lanes-long sh pl (l .lanes) (l .indices) (l .all) (l .inv .1 .out) (a .args .vl) (l .inv .0 .good) (z .first) (n .first)) (lanes-long sh pl (l .lanes) (l .indices) (l .all) (l .inv .1 .out) (a .args .vl) (l .inv .0 .good) (z .second) (n .second)) (lanes-long sh pl (l .lanes) (l .indices) (l .all) (l .inv .1 .out) (a .args .vl) (l .inv .0 .good) (z .destination) (n .destination)) (z .action) _ (c .before .before .before .before .before .before .why .given .1) r r r in
+    let p = passing-no _ _ _ _ _ _ _ _ _ _ _ (l .inv .0) (m .loop2-test .taken) (omega (arith, o .inv .0, o .inv .1)) _ _ _ _ _
+    (calculated-at sh pl (l .lanes) (l .indices) (l .all) (l .inv .1 .out) (a .args .vl) (z .action) (l .memory) (z .first) (z .second) (z .destination) (n .first) (n .second) (n .destination) _ r r r (l .memory) h) _ (c .before .before .before .before .before .before .why .given .1) in
+    (λ t. record { world = record { machine = record { registers = c .rejoined .ensures t }; memory = l .memory }; report = record { passes = o .passes; calculations = l .calculations }; verdict = Refused (c .before .before .before .before .before .before .why .given .0 .0) (getD (a .args .body .steps) (l .k) noStep .place) })
+    ∙ passes-no _ _ _ _ _ _ _ _ _ _ (o .inv .2) (m .before .before .loop-test .taken) _ _ _ _ (l .inv .0) _ _ (p .1)
 
 enum-told : tie.Need-enum-told Inv-loop2 μ-loop2 Inv-loop μ-loop
 enum-told c = search needs
 
-mul-registers : tie.Need-mul-registers Inv-loop2 μ-loop2 Inv-loop μ-loop
-mul-registers c = omega (arith, named-here _ _ _ _ _ _ _ _ _ _ _ (c .before .before .before .before .before .before .before .before .before .before .before .before .before .before .before .loop2 .inv) (c .before .before .before .before .before .before .before .before .before .before .before .before .before .before .loop2-test .taken) (omega (arith, c .before .before .before .before .before .before .before .before .before .before .before .before .before .before .before .before .before .loop .inv .0, c .before .before .before .before .before .before .before .before .before .before .before .before .before .before .before .before .before .loop .inv .1)) .first)
+mul-la : tie.Need-mul-la Inv-loop2 μ-loop2 Inv-loop μ-loop
+mul-la c = omega (arith, named (c .before .before .before .before .before .before .before .before .before .before .before .before .before .before .before .before .before .before .before) .first)
 
-array-set-from-registers : tie.Need-array-set-from-registers Inv-loop2 μ-loop2 Inv-loop μ-loop
-array-set-from-registers c = named-here _ _ _ _ _ _ _ _ _ _ _ (c .before .before .before .before .before .before .before .before .before .before .before .before .before .before .before .loop2 .inv) (c .before .before .before .before .before .before .before .before .before .before .before .before .before .before .loop2-test .taken) (omega (arith, c .before .before .before .before .before .before .before .before .before .before .before .before .before .before .before .before .before .loop .inv .0, c .before .before .before .before .before .before .before .before .before .before .before .before .before .before .before .before .before .loop .inv .1)) .first
+array-copy-out-la : tie.Need-array-copy-out-la Inv-loop2 μ-loop2 Inv-loop μ-loop
+array-copy-out-la c = named (c .before .before .before .before .before .before .before .before .before .before .before .before .before .before .before .before .before .before .before) .first
 
-mul-registers-2 : tie.Need-mul-registers-2 Inv-loop2 μ-loop2 Inv-loop μ-loop
-mul-registers-2 c = omega (arith, named-here _ _ _ _ _ _ _ _ _ _ _ (c .before .before .before .before .before .before .before .before .before .before .before .before .before .before .before .loop2 .inv) (c .before .before .before .before .before .before .before .before .before .before .before .before .before .before .loop2-test .taken) (omega (arith, c .before .before .before .before .before .before .before .before .before .before .before .before .before .before .before .before .before .loop .inv .0, c .before .before .before .before .before .before .before .before .before .before .before .before .before .before .before .before .before .loop .inv .1)) .second)
+mul-lb : tie.Need-mul-lb Inv-loop2 μ-loop2 Inv-loop μ-loop
+mul-lb c = omega (arith, named (c .before .before .before .before .before .before .before .before .before .before .before .before .before .before .before .before .before .before .before .before) .second)
 
-array-set-from-registers-2 : tie.Need-array-set-from-registers-2 Inv-loop2 μ-loop2 Inv-loop μ-loop
-array-set-from-registers-2 c = named-here _ _ _ _ _ _ _ _ _ _ _ (c .before .before .before .before .before .before .before .before .before .before .before .before .before .before .before .loop2 .inv) (c .before .before .before .before .before .before .before .before .before .before .before .before .before .before .loop2-test .taken) (omega (arith, c .before .before .before .before .before .before .before .before .before .before .before .before .before .before .before .before .before .loop .inv .0, c .before .before .before .before .before .before .before .before .before .before .before .before .before .before .before .before .before .loop .inv .1)) .second
+array-copy-out-lb : tie.Need-array-copy-out-lb Inv-loop2 μ-loop2 Inv-loop μ-loop
+array-copy-out-lb c = named (c .before .before .before .before .before .before .before .before .before .before .before .before .before .before .before .before .before .before .before .before) .second
 
-mul-registers-3 : tie.Need-mul-registers-3 Inv-loop2 μ-loop2 Inv-loop μ-loop
-mul-registers-3 c = omega (arith, named-here _ _ _ _ _ _ _ _ _ _ _ (c .before .before .before .before .before .before .before .before .before .before .before .before .before .before .before .loop2 .inv) (c .before .before .before .before .before .before .before .before .before .before .before .before .before .before .loop2-test .taken) (omega (arith, c .before .before .before .before .before .before .before .before .before .before .before .before .before .before .before .before .before .loop .inv .0, c .before .before .before .before .before .before .before .before .before .before .before .before .before .before .before .before .before .loop .inv .1)) .destination)
+mul-ld : tie.Need-mul-ld Inv-loop2 μ-loop2 Inv-loop μ-loop
+mul-ld c = omega (arith, named (c .before .before .before .before .before .before .before .before .before .before .before .before .before .before .before .before .before .before .before .before .before) .destination)
 
-array-set-from-registers-3 : tie.Need-array-set-from-registers-3 Inv-loop2 μ-loop2 Inv-loop μ-loop
-array-set-from-registers-3 c = named-here _ _ _ _ _ _ _ _ _ _ _ (c .before .before .before .before .before .before .before .before .before .before .before .before .before .before .before .loop2 .inv) (c .before .before .before .before .before .before .before .before .before .before .before .before .before .before .loop2-test .taken) (omega (arith, c .before .before .before .before .before .before .before .before .before .before .before .before .before .before .before .before .before .loop .inv .0, c .before .before .before .before .before .before .before .before .before .before .before .before .before .before .before .before .before .loop .inv .1)) .destination
+array-copy-out-ld : tie.Need-array-copy-out-ld Inv-loop2 μ-loop2 Inv-loop μ-loop
+array-copy-out-ld c = named (c .before .before .before .before .before .before .before .before .before .before .before .before .before .before .before .before .before .before .before .before .before) .destination
+
+carry-out-requires : tie.Need-carry-out-requires Inv-loop2 μ-loop2 Inv-loop μ-loop
+carry-out-requires c κs =
+    let m = c .before .before .before .before .before .before .before .before .before .before .before .before .before .before .before .before .before .before .before .before .before .before .before .before .before .before .before .before .before .before .before .before in
+    let l = m .before .loop2 in
+    let o = m .before .before .before .loop in
+    let y = m .before .before .before .before .before .before .lay-out in
+    let a = m .before .before .before .before .before .before .before .before .before .before .before .before .before in
+    let sh = y .last .1 .0 in
+    let pl = y .last .1 .1 .0 in
+    let z = getD (a .args .body .steps) (l .k) noStep .calculation in
+    let n = named m in
+    let k = c .before .before .before .before .before .before .before .before .before .before .before .before .before .before .before .check-calculation in
+    let g = checked (c .before .before .before .before .before .before .before .before .before .before .before .before .before .before .before) in
+    let e = c .before .before .before .before .before .before .before .before .before .before .before .before .before .enum-told .given .1 in (
+      g .within e,
+      λ t.
+          let h = g .again e t in
+          (h .0, (h .1, ap (λ i. getD (l .lanes) i []) (sym (eqb-true (z .first) (z .second) t)))),
+    )
+
+mul-all : tie.Need-mul-all Inv-loop2 μ-loop2 Inv-loop μ-loop
+mul-all c = omega (arith, named (c .before .before .before .before .before .before .before .before .before .before .before .before .before .before .before .before .before .before .before .before .before .before .before .before .before .before .before .before .before .before .before .before .before .before .before .before .before .before) .first)
+
+array-set-from-all : tie.Need-array-set-from-all Inv-loop2 μ-loop2 Inv-loop μ-loop
+array-set-from-all c = named (c .before .before .before .before .before .before .before .before .before .before .before .before .before .before .before .before .before .before .before .before .before .before .before .before .before .before .before .before .before .before .before .before .before .before .before .before .before .before) .first
+
+mul-lanes : tie.Need-mul-lanes Inv-loop2 μ-loop2 Inv-loop μ-loop
+mul-lanes c = omega (arith, named (c .before .before .before .before .before .before .before .before .before .before .before .before .before .before .before .before .before .before .before .before .before .before .before .before .before .before .before .before .before .before .before .before .before .before .before .before .before .before) .first)
+
+array-set-from-lanes : tie.Need-array-set-from-lanes Inv-loop2 μ-loop2 Inv-loop μ-loop
+array-set-from-lanes c = named (c .before .before .before .before .before .before .before .before .before .before .before .before .before .before .before .before .before .before .before .before .before .before .before .before .before .before .before .before .before .before .before .before .before .before .before .before .before .before) .first
+
+mul-indices : tie.Need-mul-indices Inv-loop2 μ-loop2 Inv-loop μ-loop
+mul-indices c = omega (arith, named (c .before .before .before .before .before .before .before .before .before .before .before .before .before .before .before .before .before .before .before .before .before .before .before .before .before .before .before .before .before .before .before .before .before .before .before .before .before .before) .first)
+
+array-set-from-indices : tie.Need-array-set-from-indices Inv-loop2 μ-loop2 Inv-loop μ-loop
+array-set-from-indices c = named (c .before .before .before .before .before .before .before .before .before .before .before .before .before .before .before .before .before .before .before .before .before .before .before .before .before .before .before .before .before .before .before .before .before .before .before .before .before .before) .first
+
+mul-all-2 : tie.Need-mul-all-2 Inv-loop2 μ-loop2 Inv-loop μ-loop
+mul-all-2 c = omega (arith, named (c .before .before .before .before .before .before .before .before .before .before .before .before .before .before .before .before .before .before .before .before .before .before .before .before .before .before .before .before .before .before .before .before .before .before .before .before .before .before) .second)
+
+array-set-from-all-2 : tie.Need-array-set-from-all-2 Inv-loop2 μ-loop2 Inv-loop μ-loop
+array-set-from-all-2 c = named (c .before .before .before .before .before .before .before .before .before .before .before .before .before .before .before .before .before .before .before .before .before .before .before .before .before .before .before .before .before .before .before .before .before .before .before .before .before .before) .second
+
+mul-lanes-2 : tie.Need-mul-lanes-2 Inv-loop2 μ-loop2 Inv-loop μ-loop
+mul-lanes-2 c = omega (arith, named (c .before .before .before .before .before .before .before .before .before .before .before .before .before .before .before .before .before .before .before .before .before .before .before .before .before .before .before .before .before .before .before .before .before .before .before .before .before .before) .second)
+
+array-set-from-lanes-2 : tie.Need-array-set-from-lanes-2 Inv-loop2 μ-loop2 Inv-loop μ-loop
+array-set-from-lanes-2 c = named (c .before .before .before .before .before .before .before .before .before .before .before .before .before .before .before .before .before .before .before .before .before .before .before .before .before .before .before .before .before .before .before .before .before .before .before .before .before .before) .second
+
+mul-indices-2 : tie.Need-mul-indices-2 Inv-loop2 μ-loop2 Inv-loop μ-loop
+mul-indices-2 c = omega (arith, named (c .before .before .before .before .before .before .before .before .before .before .before .before .before .before .before .before .before .before .before .before .before .before .before .before .before .before .before .before .before .before .before .before .before .before .before .before .before .before) .second)
+
+array-set-from-indices-2 : tie.Need-array-set-from-indices-2 Inv-loop2 μ-loop2 Inv-loop μ-loop
+array-set-from-indices-2 c = named (c .before .before .before .before .before .before .before .before .before .before .before .before .before .before .before .before .before .before .before .before .before .before .before .before .before .before .before .before .before .before .before .before .before .before .before .before .before .before) .second
+
+mul-all-3 : tie.Need-mul-all-3 Inv-loop2 μ-loop2 Inv-loop μ-loop
+mul-all-3 c = omega (arith, named (c .before .before .before .before .before .before .before .before .before .before .before .before .before .before .before .before .before .before .before .before .before .before .before .before .before .before .before .before .before .before .before .before .before .before .before .before .before .before) .destination)
+
+array-set-from-all-3 : tie.Need-array-set-from-all-3 Inv-loop2 μ-loop2 Inv-loop μ-loop
+array-set-from-all-3 c = named (c .before .before .before .before .before .before .before .before .before .before .before .before .before .before .before .before .before .before .before .before .before .before .before .before .before .before .before .before .before .before .before .before .before .before .before .before .before .before) .destination
+
+mul-lanes-3 : tie.Need-mul-lanes-3 Inv-loop2 μ-loop2 Inv-loop μ-loop
+mul-lanes-3 c = omega (arith, named (c .before .before .before .before .before .before .before .before .before .before .before .before .before .before .before .before .before .before .before .before .before .before .before .before .before .before .before .before .before .before .before .before .before .before .before .before .before .before) .destination)
+
+array-set-from-lanes-3 : tie.Need-array-set-from-lanes-3 Inv-loop2 μ-loop2 Inv-loop μ-loop
+array-set-from-lanes-3 c = named (c .before .before .before .before .before .before .before .before .before .before .before .before .before .before .before .before .before .before .before .before .before .before .before .before .before .before .before .before .before .before .before .before .before .before .before .before .before .before) .destination
+
+mul-indices-3 : tie.Need-mul-indices-3 Inv-loop2 μ-loop2 Inv-loop μ-loop
+mul-indices-3 c = omega (arith, named (c .before .before .before .before .before .before .before .before .before .before .before .before .before .before .before .before .before .before .before .before .before .before .before .before .before .before .before .before .before .before .before .before .before .before .before .before .before .before) .destination)
+
+array-set-from-indices-3 : tie.Need-array-set-from-indices-3 Inv-loop2 μ-loop2 Inv-loop μ-loop
+array-set-from-indices-3 c = named (c .before .before .before .before .before .before .before .before .before .before .before .before .before .before .before .before .before .before .before .before .before .before .before .before .before .before .before .before .before .before .before .before .before .before .before .before .before .before) .destination
 
 add-calculations : tie.Need-add-calculations Inv-loop2 μ-loop2 Inv-loop μ-loop
-add-calculations c = omega (arith, c .before .before .before .before .before .before .before .before .before .before .before .before .before .before .before .loop2 .inv .few, c .before .before .before .before .before .before .before .before .before .before .before .before .before .before .before .loop2 .inv .within, c .before .before .before .before .before .before .before .before .before .before .before .before .before .before .before .before .before .loop .inv .2 .counted, c .before .before .before .before .before .before .before .before .before .before .before .before .before .before .before .before .before .loop .inv .2 .few, c .before .before .before .before .before .before .before .before .before .before .before .before .before .before .before .before .before .loop .inv .0)
+add-calculations c = let l = c .before .before .before .before .before .before .before .before .before .before .before .before .before .before .before .before .before .before .before .before .before .before .before .before .before .before .before .before .before .before .before .before .before .before .before .before .before .before .before .loop2 .inv .0 in let o = c .before .before .before .before .before .before .before .before .before .before .before .before .before .before .before .before .before .before .before .before .before .before .before .before .before .before .before .before .before .before .before .before .before .before .before .before .before .before .before .before .before .loop .inv in omega (arith, l .few, l .within, o .2 .counted, o .2 .few, o .0)
 
 add-k : tie.Need-add-k Inv-loop2 μ-loop2 Inv-loop μ-loop
-add-k c = omega (arith, c .before .before .before .before .before .before .before .before .before .before .before .before .before .before .loop2-test .taken, c .before .before .before .before .before .before .before .before .before .before .before .before .before .before .before .before .before .loop .inv .0)
+add-k c = omega (arith, c .before .before .before .before .before .before .before .before .before .before .before .before .before .before .before .before .before .before .before .before .before .before .before .before .before .before .before .before .before .before .before .before .before .before .before .before .before .before .loop2-test .taken, c .before .before .before .before .before .before .before .before .before .before .before .before .before .before .before .before .before .before .before .before .before .before .before .before .before .before .before .before .before .before .before .before .before .before .before .before .before .before .before .before .before .loop .inv .0)
 
 loop2-less : tie.Need-loop2-less Inv-loop2 μ-loop2 Inv-loop μ-loop
-loop2-less c = omega (arith, c .before .before .before .before .before .before .before .before .before .before .before .before .before .before .loop2-test .taken)
+loop2-less c = omega (arith, c .before .before .before .before .before .before .before .before .before .before .before .before .before .before .before .before .before .before .before .before .before .before .before .before .before .before .before .before .before .before .before .before .before .before .before .before .before .before .loop2-test .taken)
 
 loop2-again : tie.Need-loop2-again Inv-loop2 μ-loop2 Inv-loop μ-loop
-loop2-again c = passing-on _ _ _ _ _ _ _ _ _ _ _ (c .before .before .before .before .before .before .before .before .before .before .before .before .before .before .before .loop2 .inv) (c .before .before .before .before .before .before .before .before .before .before .before .before .before .before .loop2-test .taken) (omega (arith, c .before .before .before .before .before .before .before .before .before .before .before .before .before .before .before .before .before .loop .inv .0, c .before .before .before .before .before .before .before .before .before .before .before .before .before .before .before .before .before .loop .inv .1)) _ _ _ _ _ (c .before .before .before .before .before .before .before .calculate .ensures) (c .before .before .before .enum-told .given .1)
+loop2-again c =
+    let m = c .before .before .before .before .before .before .before .before .before .before .before .before .before .before .before .before .before .before .before .before .before .before .before .before .before .before .before .before .before .before .before .before .before .before .before .before .before .before in
+    let l = m .before .loop2 in
+    let o = m .before .before .before .loop in
+    let y = m .before .before .before .before .before .before .lay-out in
+    let a = m .before .before .before .before .before .before .before .before .before .before .before .before .before in
+    let sh = y .last .1 .0 in
+    let pl = y .last .1 .1 .0 in
+    let z = getD (a .args .body .steps) (l .k) noStep .calculation in
+    let n = named m in
+    let k = c .before .before .before .before .before .before .before .before .before .before .before .before .before .before .before .before .before .before .before .before .before .check-calculation in
+    let g = checked (c .before .before .before .before .before .before .before .before .before .before .before .before .before .before .before .before .before .before .before .before .before) in
+    let e = c .before .before .before .before .before .before .before .before .before .before .before .before .before .before .before .before .before .before .before .enum-told .given .1 in
+    let v = c .before .before .before .before .before .carry-out in
+    let fa = fit-at sh pl (l .lanes) (l .indices) (l .all) (l .inv .1 .out) (a .args .vl) (l .inv .0 .good) (z .first) (n .first) in
+    let h = calculated (a .args .vl) (eqb (z .first) (z .second)) (patternAt sh pl (z .first)) (patternAt sh pl (z .second)) (patternAt sh pl (z .destination)) (getD (l .all) (z .first) noRunning) (getD (l .all) (z .second) noRunning) (getD (l .all) (z .destination) noRunning)
+    (getD (l .indices) (z .first) []) (getD (l .indices) (z .second) []) (getD (l .indices) (z .destination) []) (k .last .1 .1 .1 .1 .1 .1 .1 .1 .1 .1 .1 .0) (k .last .1 .1 .1 .1 .1 .1 .1 .1 .1 .1 .1 .1 .0) (k .last .1 .1 .1 .1 .1 .1 .1 .1 .1 .1 .1 .1 .1 .0) (k .last .1 .1 .1 .1 .1 .1 .1 .1 .1 .1 .1 .1 .1 .1 .0) (k .last .1 .1 .1 .1 .1 .1 .1 .1 .1 .1 .1 .1 .1 .1 .1 .0) (k .last .1 .1 .1 .1 .1 .1 .1 .1 .1 .1 .1 .1 .1 .1 .1 .1 .0) (k .result)
+    (getD (l .lanes) (z .first) []) (getD (l .lanes) (z .second) []) (getD (l .lanes) (z .destination) []) (l .memory) g (lanes-long sh pl (l .lanes) (l .indices) (l .all) (l .inv .1 .out) (a .args .vl) (l .inv .0 .good) (z .first) (n .first)) (lanes-long sh pl (l .lanes) (l .indices) (l .all) (l .inv .1 .out) (a .args .vl) (l .inv .0 .good) (z .second) (n .second)) (lanes-long sh pl (l .lanes) (l .indices) (l .all) (l .inv .1 .out) (a .args .vl) (l .inv .0 .good) (z .destination) (n .destination)) (z .action) e fa (v .result) (v .last .1 .1 .1 .1 .1 .1 .1 .1 .1 .0) (v .last .1 .1 .1 .1 .1 .1 .1 .1 .1 .1 .0) (v .last .1 .1 .1 .1 .1 .1 .1 .1 .1 .1 .1 .0) (v .last .1 .1 .1 .1 .1 .1 .1 .1 .1 .1 .1 .1 .0) (v .ensures) in
+    let q = passing-on _ _ _ _ _ _ _ _ _ _ _ (l .inv .0) (m .loop2-test .taken) (omega (arith, o .inv .0, o .inv .1)) _ _ _ _ _
+    (calculated-at sh pl (l .lanes) (l .indices) (l .all) (l .inv .1 .out) (a .args .vl) (z .action) (l .memory) (z .first) (z .second) (z .destination) (n .first) (n .second) (n .destination) _ _ _ _ (v .last .1 .1 .1 .1 .1 .1 .1 .1 .1 .1 .1 .1 .0) h) e in
+    let mf = remember-first (a .args .vl) (eqb (z .first) (z .second)) (patternAt sh pl (z .first)) (patternAt sh pl (z .second)) (patternAt sh pl (z .destination)) (getD (l .all) (z .first) noRunning) (getD (l .all) (z .second) noRunning) (getD (l .all) (z .destination) noRunning)
+    (getD (l .indices) (z .first) []) (getD (l .indices) (z .second) []) (getD (l .indices) (z .destination) []) (k .last .1 .1 .1 .1 .1 .1 .1 .1 .1 .1 .1 .0) (k .last .1 .1 .1 .1 .1 .1 .1 .1 .1 .1 .1 .1 .0) (k .last .1 .1 .1 .1 .1 .1 .1 .1 .1 .1 .1 .1 .1 .0) (k .last .1 .1 .1 .1 .1 .1 .1 .1 .1 .1 .1 .1 .1 .1 .0) (k .last .1 .1 .1 .1 .1 .1 .1 .1 .1 .1 .1 .1 .1 .1 .1 .0) (k .last .1 .1 .1 .1 .1 .1 .1 .1 .1 .1 .1 .1 .1 .1 .1 .1 .0) (k .result)
+    (getD (l .lanes) (z .first) []) (getD (l .lanes) (z .second) []) (getD (l .lanes) (z .destination) []) (l .memory) g (lanes-long sh pl (l .lanes) (l .indices) (l .all) (l .inv .1 .out) (a .args .vl) (l .inv .0 .good) (z .first) (n .first)) (lanes-long sh pl (l .lanes) (l .indices) (l .all) (l .inv .1 .out) (a .args .vl) (l .inv .0 .good) (z .second) (n .second)) (lanes-long sh pl (l .lanes) (l .indices) (l .all) (l .inv .1 .out) (a .args .vl) (l .inv .0 .good) (z .destination) (n .destination)) (z .action) e fa (v .result) (v .last .1 .1 .1 .1 .1 .1 .1 .1 .1 .0) (v .last .1 .1 .1 .1 .1 .1 .1 .1 .1 .1 .0) (v .last .1 .1 .1 .1 .1 .1 .1 .1 .1 .1 .1 .0) (v .last .1 .1 .1 .1 .1 .1 .1 .1 .1 .1 .1 .1 .0) (v .ensures) in
+    let ms = remember-second (a .args .vl) (eqb (z .first) (z .second)) (patternAt sh pl (z .first)) (patternAt sh pl (z .second)) (patternAt sh pl (z .destination)) (getD (l .all) (z .first) noRunning) (getD (l .all) (z .second) noRunning) (getD (l .all) (z .destination) noRunning)
+    (getD (l .indices) (z .first) []) (getD (l .indices) (z .second) []) (getD (l .indices) (z .destination) []) (k .last .1 .1 .1 .1 .1 .1 .1 .1 .1 .1 .1 .0) (k .last .1 .1 .1 .1 .1 .1 .1 .1 .1 .1 .1 .1 .0) (k .last .1 .1 .1 .1 .1 .1 .1 .1 .1 .1 .1 .1 .1 .0) (k .last .1 .1 .1 .1 .1 .1 .1 .1 .1 .1 .1 .1 .1 .1 .0) (k .last .1 .1 .1 .1 .1 .1 .1 .1 .1 .1 .1 .1 .1 .1 .1 .0) (k .last .1 .1 .1 .1 .1 .1 .1 .1 .1 .1 .1 .1 .1 .1 .1 .1 .0) (k .result)
+    (getD (l .lanes) (z .first) []) (getD (l .lanes) (z .second) []) (getD (l .lanes) (z .destination) []) (l .memory) g (lanes-long sh pl (l .lanes) (l .indices) (l .all) (l .inv .1 .out) (a .args .vl) (l .inv .0 .good) (z .first) (n .first)) (lanes-long sh pl (l .lanes) (l .indices) (l .all) (l .inv .1 .out) (a .args .vl) (l .inv .0 .good) (z .second) (n .second)) (lanes-long sh pl (l .lanes) (l .indices) (l .all) (l .inv .1 .out) (a .args .vl) (l .inv .0 .good) (z .destination) (n .destination)) (z .action) e fa (v .result) (v .last .1 .1 .1 .1 .1 .1 .1 .1 .1 .0) (v .last .1 .1 .1 .1 .1 .1 .1 .1 .1 .1 .0) (v .last .1 .1 .1 .1 .1 .1 .1 .1 .1 .1 .1 .0) (v .last .1 .1 .1 .1 .1 .1 .1 .1 .1 .1 .1 .1 .0) (v .ensures) in
+    let mw = remember-third (a .args .vl) (eqb (z .first) (z .second)) (patternAt sh pl (z .first)) (patternAt sh pl (z .second)) (patternAt sh pl (z .destination)) (getD (l .all) (z .first) noRunning) (getD (l .all) (z .second) noRunning) (getD (l .all) (z .destination) noRunning)
+    (getD (l .indices) (z .first) []) (getD (l .indices) (z .second) []) (getD (l .indices) (z .destination) []) (k .last .1 .1 .1 .1 .1 .1 .1 .1 .1 .1 .1 .0) (k .last .1 .1 .1 .1 .1 .1 .1 .1 .1 .1 .1 .1 .0) (k .last .1 .1 .1 .1 .1 .1 .1 .1 .1 .1 .1 .1 .1 .0) (k .last .1 .1 .1 .1 .1 .1 .1 .1 .1 .1 .1 .1 .1 .1 .0) (k .last .1 .1 .1 .1 .1 .1 .1 .1 .1 .1 .1 .1 .1 .1 .1 .0) (k .last .1 .1 .1 .1 .1 .1 .1 .1 .1 .1 .1 .1 .1 .1 .1 .1 .0) (k .result)
+    (getD (l .lanes) (z .first) []) (getD (l .lanes) (z .second) []) (getD (l .lanes) (z .destination) []) (l .memory) g (lanes-long sh pl (l .lanes) (l .indices) (l .all) (l .inv .1 .out) (a .args .vl) (l .inv .0 .good) (z .first) (n .first)) (lanes-long sh pl (l .lanes) (l .indices) (l .all) (l .inv .1 .out) (a .args .vl) (l .inv .0 .good) (z .second) (n .second)) (lanes-long sh pl (l .lanes) (l .indices) (l .all) (l .inv .1 .out) (a .args .vl) (l .inv .0 .good) (z .destination) (n .destination)) (z .action) e fa (v .result) (v .last .1 .1 .1 .1 .1 .1 .1 .1 .1 .0) (v .last .1 .1 .1 .1 .1 .1 .1 .1 .1 .1 .0) (v .last .1 .1 .1 .1 .1 .1 .1 .1 .1 .1 .1 .0) (v .last .1 .1 .1 .1 .1 .1 .1 .1 .1 .1 .1 .1 .0) (v .ensures) in (
+      subst (λ rs. Passing (a .args .vl) (a .args .body .count) (a .args .body .steps) (o .passes) (registersIn sh pl (o .lanes) (o .indices) (o .all)) (o .memory) (o .calculations) rs (v .last .1 .1 .1 .1 .1 .1 .1 .1 .1 .1 .1 .1 .0) (l .calculations + 1) (l .k + 1))
+          (sym (views-on sh pl (l .lanes) (l .indices) (l .all) (l .inv .1 .out) (z .first) (z .second) (z .destination) (n .first) (n .second) (n .destination) (v .last .1 .1 .1 .1 .1 .1 .1 .1 .1 .0) (v .last .1 .1 .1 .1 .1 .1 .1 .1 .1 .1 .0) (v .last .1 .1 .1 .1 .1 .1 .1 .1 .1 .1 .1 .0) (k .last .1 .1 .1 .1 .1 .1 .1 .1 .1 .1 .1 .0) (k .last .1 .1 .1 .1 .1 .1 .1 .1 .1 .1 .1 .1 .0) (k .last .1 .1 .1 .1 .1 .1 .1 .1 .1 .1 .1 .1 .1 .0) (v .result .first) (v .result .second) (v .result .destination) mf ms mw)) q,
+      record {
+        out = laid-on sh pl (l .lanes) (l .indices) (l .all) (l .inv .1 .out) (z .first) (z .second) (z .destination) (n .first) (n .second) (n .destination) (v .last .1 .1 .1 .1 .1 .1 .1 .1 .1 .0) (v .last .1 .1 .1 .1 .1 .1 .1 .1 .1 .1 .0) (v .last .1 .1 .1 .1 .1 .1 .1 .1 .1 .1 .1 .0) (k .last .1 .1 .1 .1 .1 .1 .1 .1 .1 .1 .1 .0) (k .last .1 .1 .1 .1 .1 .1 .1 .1 .1 .1 .1 .1 .0) (k .last .1 .1 .1 .1 .1 .1 .1 .1 .1 .1 .1 .1 .1 .0) (v .result .first) (v .result .second) (v .result .destination) mf ms mw;
+        firsts = k .ensures .1 .0;
+        seconds = k .ensures .1 .1 .0;
+        thirds = k .ensures .1 .1 .1;
+        long = q .long ∙ sym (l .inv .0 .long) ∙ l .inv .1 .long;
+      },
+    )
 
 add-passes : tie.Need-add-passes Inv-loop2 μ-loop2 Inv-loop μ-loop
 add-passes c = omega (arith, c .before .before .before .loop .inv .2 .few)
 
 mul-after : tie.Need-mul-after Inv-loop2 μ-loop2 Inv-loop μ-loop
-mul-after c = omega (arith, c .before .before .before .before .before .before .before .before .before .pre .0 .1 .0)
+mul-after c = omega (arith, c .before .before .before .before .before .before .before .before .before .before .before .before .before .pre .0 .1 .0)
 
 array-copy-out-after : tie.Need-array-copy-out-after Inv-loop2 μ-loop2 Inv-loop μ-loop
-array-copy-out-after c = c .before .before .before .before .before .before .before .before .before .pre .0 .1 .0
+array-copy-out-after c = c .before .before .before .before .before .before .before .before .before .before .before .before .before .pre .0 .1 .0
 
 is-open-requires-2 : tie.Need-is-open-requires-2 Inv-loop2 μ-loop2 Inv-loop μ-loop
-is-open-requires-2 c κs = search needs
+is-open-requires-2 c κs = tt
 
 loop-less : tie.Need-loop-less Inv-loop2 μ-loop2 Inv-loop μ-loop
-loop-less c = passes-fewer _ _ _ _ _ _ _ _ _ _ (c .before .before .before .before .before .loop .inv .2) (c .before .before .before .before .loop-test .taken) _ _ _ _ (c .before .before .before .loop2 .inv) (c .before .before .loop2-test .left) (c .before .before .before .before .before .loop .inv .0)
+loop-less c = passes-fewer _ _ _ _ _ _ _ _ _ _ (c .before .before .before .before .before .loop .inv .2) (c .before .before .before .before .loop-test .taken) _ _ _ _ (c .before .before .before .loop2 .inv .0) (c .before .before .loop2-test .left) (c .before .before .before .before .before .loop .inv .0)
 
 loop-again : tie.Need-loop-again Inv-loop2 μ-loop2 Inv-loop μ-loop
-loop-again c = (c .before .before .before .before .before .loop .inv .0, c .before .before .before .before .before .loop .inv .1, passes-on _ _ _ _ _ _ _ _ _ _ (c .before .before .before .before .before .loop .inv .2) (c .before .before .before .before .loop-test .taken) _ _ _ _ (c .before .before .before .loop2 .inv) (c .before .before .loop2-test .left) (c .before .before .before .before .before .loop .inv .0) _ (c .is-open2 .ensures))
+loop-again c =
+    let o = c .before .before .before .before .before .loop in
+    let l = c .before .before .before .loop2 in
+    let y = c .before .before .before .before .before .before .before .before .lay-out in
+    let s = c .before .before .before .before .before .before .before .before .before .before .before .before .before .before .before in (
+      o .inv .0,
+      o .inv .1,
+      passes-on _ _ _ _ _ _ _ _ _ _ (o .inv .2) (c .before .before .before .before .loop-test .taken) _ _ _ _ (l .inv .0) (c .before .before .loop2-test .left) (o .inv .0) _
+          (c .is-open2 .ensures ∙ ap (λ r. isOpen (r .state)) (sym (views-at (y .last .1 .0) (y .last .1 .1 .0) (l .lanes) (l .indices) (l .all) (s .args .register) (s .pre .0 .1 .0)))),
+      l .inv .1,
+    )
+
+rejoined-requires-2 : tie.Need-rejoined-requires-2 Inv-loop2 μ-loop2 Inv-loop μ-loop
+rejoined-requires-2 c κs =
+    let l = c .before .before .before .before .before .loop in
+    let y = c .before .before .before .before .before .before .before .before .lay-out in
+    (l .inv .3 .out, λ k h. ap (λ rs. getD rs k noRegister .pattern) (sym (y .ensures .1)) ∙ patterns-set (y .last .1 .0) (y .last .1 .1 .0) (y .last .1 .1 .1 .0) (y .last .1 .1 .1 .1 .0) (y .result) k h)
 
 same-length-2 : tie.Need-same-length-2 Inv-loop2 μ-loop2 Inv-loop μ-loop
-same-length-2 c = c .before .loop .inv .2 .long
+same-length-2 c = c .before .before .before .before .before .before .loop .inv .2 .long
 
 returns-2 : tie.Need-returns-2 Inv-loop2 μ-loop2 Inv-loop μ-loop
-returns-2 c = passes-over _ _ (c .before .before .before .before .before .before .before .args .body .count) (c .before .before .before .before .before .before .before .args .body .steps) _ _ _ _ _ _ (c .before .loop .inv .2) (c .loop-test .left)
+returns-2 c =
+    let o = c .before .before .before .before .before .before .loop in
+    let s = c .before .before .before .before .before .before .before .before .before .before .before .before .before .before .before .before .args in
+    (λ t. record { world = record { machine = record { registers = c .rejoined2 .ensures t }; memory = o .memory }; report = record { passes = o .passes; calculations = o .calculations }; verdict = Done })
+    ∙ passes-over _ _ (s .body .count) (s .body .steps) _ _ _ _ _ _ (o .inv .2) (c .before .before .before .before .before .loop-test .left)
 
 pub execute-spec : {M : Type 1} → statement M
 execute-spec =
@@ -158,6 +404,7 @@ execute-spec =
     μ-loop2
     Inv-loop
     μ-loop
+    lay-out-requires
     mul-looped
     array-copy-out-looped
     is-open-requires
@@ -169,19 +416,45 @@ execute-spec =
     array-copy-out-a
     mul-b
     array-copy-out-b
-    mul-z
-    array-copy-out-z
-    calculate-requires
+    mul-d
+    array-copy-out-d
+    mul-va
+    array-copy-out-va
+    mul-vb
+    array-copy-out-vb
+    mul-vd
+    array-copy-out-vd
+    check-calculation-requires
     enum-known-why
+    rejoined-requires
     same-length
     returns
     enum-told
-    mul-registers
-    array-set-from-registers
-    mul-registers-2
-    array-set-from-registers-2
-    mul-registers-3
-    array-set-from-registers-3
+    mul-la
+    array-copy-out-la
+    mul-lb
+    array-copy-out-lb
+    mul-ld
+    array-copy-out-ld
+    carry-out-requires
+    mul-all
+    array-set-from-all
+    mul-lanes
+    array-set-from-lanes
+    mul-indices
+    array-set-from-indices
+    mul-all-2
+    array-set-from-all-2
+    mul-lanes-2
+    array-set-from-lanes-2
+    mul-indices-2
+    array-set-from-indices-2
+    mul-all-3
+    array-set-from-all-3
+    mul-lanes-3
+    array-set-from-lanes-3
+    mul-indices-3
+    array-set-from-indices-3
     add-calculations
     add-k
     loop2-less
@@ -192,5 +465,6 @@ execute-spec =
     is-open-requires-2
     loop-less
     loop-again
+    rejoined-requires-2
     same-length-2
     returns-2)

@@ -1,95 +1,58 @@
--- `memory::load` meets its contract: at byte k, counted down, the number is that of the bytes from k on.
-use native.Mathlib.Omega.{arith}
-use Prim.Native.Nat.{_+_, _-_, _*_, _^_, _≤_, _<_}
+-- `memory::load` meets its contract: at each width by the function for it.
 use mathlib.Core.Path.{_≡_, sym, _∙_}
-use native.Mathlib.Nat.{add-zero, sub-zero}
-use Rattle.engine.specs.Memory.{valueAt}
-use Rattle.engine.proofs.ByteSteps.{byte-loaded, none-loaded, room, grown, one-loaded, one-byte}
+use Rattle.engine.proofs.ByteSteps.{one-loaded, one-byte}
 use borrow.Author.Needs.{needs}
 use Rattle.engine.proofs.memory.load.Statement.{statement}
 use Rattle.engine.proofs.memory.load.Tie as tie
 
-abbrev Inv-loop : tie.InvT-loop
-Inv-loop bytes at width x₀ k₀ x k =
-    (k ≤ width) × (x ≡ valueAt bytes (at + k) (width - k)) × (x < 2 ^ (8 * (width - k)))
+shared-slice-read-wide : tie.Need-shared-slice-read-wide
+shared-slice-read-wide c = search needs
 
-abbrev μ-loop : tie.MeasureT-loop
-μ-loop bytes at width x₀ k₀ x k = k
-
-shared-slice-read-wide : tie.Need-shared-slice-read-wide Inv-loop μ-loop
-shared-slice-read-wide c = omega (arith, c .before .if1 .taken)
-
-wide-requires : tie.Need-wide-requires Inv-loop μ-loop
+wide-requires : tie.Need-wide-requires
 wide-requires c κs = search needs
 
-returns : tie.Need-returns Inv-loop μ-loop
+returns : tie.Need-returns
 returns c =
     let a = c .before .before .before .before .args in
     let e : a .width ≡ 1 = c .before .before .if1 .taken in
     (c .wide .ensures .0 ∙ sym (one-loaded (a .bytes .now) (a .at) (a .width) e), one-byte (c .wide .result) (a .width) e (c .wide .ensures .1))
 
-loop-holds : tie.Need-loop-holds Inv-loop μ-loop
-loop-holds c =
-    let w = c .before .before .args .width in
-    let e : w - w ≡ 0 = omega arith in
-    (omega arith, sym (none-loaded _ _ _ e), rw e (omega arith))
+load2-requires : tie.Need-load2-requires
+load2-requires c κs = search needs
 
-sub-k : tie.Need-sub-k Inv-loop μ-loop
-sub-k c = omega arith
+returns-2 : tie.Need-returns-2
+returns-2 c = rw (c .before .if2 .taken) (c .load2 .ensures)
 
-add-wide : tie.Need-add-wide Inv-loop μ-loop
-add-wide c = omega arith
+load4-requires : tie.Need-load4-requires
+load4-requires c κs = search needs
 
-shared-slice-read-wide-2 : tie.Need-shared-slice-read-wide-2 Inv-loop μ-loop
-shared-slice-read-wide-2 c = omega arith
+returns-3 : tie.Need-returns-3
+returns-3 c = rw (c .before .if3 .taken) (c .load4 .ensures)
 
-wide-requires-2 : tie.Need-wide-requires-2 Inv-loop μ-loop
-wide-requires-2 c κs = search needs
+load8-requires : tie.Need-load8-requires
+load8-requires c κs = search needs
 
-mul-x : tie.Need-mul-x Inv-loop μ-loop
-mul-x c =
-    let l = c .before .before .before .loop in
-    omega (arith, room (l .x) (c .before .before .before .before .before .before .args .width - l .k) (l .inv .2) (omega arith))
+returns-4 : tie.Need-returns-4
+returns-4 c = rw (c .before .if4 .taken) (c .load8 .ensures)
 
-add-x : tie.Need-add-x Inv-loop μ-loop
-add-x c =
-    let l = c .before .before .before .loop in
-    omega (arith, c .wide2 .ensures .1, room (l .x) (c .before .before .before .before .before .before .args .width - l .k) (l .inv .2) (omega arith))
+load-bytes-requires : tie.Need-load-bytes-requires
+load-bytes-requires c κs = search needs
 
-loop-less : tie.Need-loop-less Inv-loop μ-loop
-loop-less c = omega arith
-
-loop-again : tie.Need-loop-again Inv-loop μ-loop
-loop-again c =
-    let l = c .before .before .before .loop in
-    let a = c .before .before .before .before .before .before .args in (
-      omega arith,
-      rw (c .wide2 .ensures .0, l .inv .1) (sym (byte-loaded (a .bytes .now) (a .at) (l .k) (a .width) (c .before .before .loop-test .taken) (l .inv .0))),
-      grown (c .wide2 .result) (l .x) (a .width - l .k) _ (c .wide2 .ensures .1) (l .inv .2) (omega arith),
-    )
-
-returns-2 : tie.Need-returns-2 Inv-loop μ-loop
-returns-2 c =
-    let l = c .before .loop in
-    let e : l .k ≡ 0 = omega arith in
-    (l .inv .1 ∙ rw (e, add-zero, sub-zero), rw (e, sub-zero) at (l .inv .2))
+returns-5 : tie.Need-returns-5
+returns-5 c = search needs
 
 pub load-spec : {M : Type 1} → statement M
 load-spec =
     tie.close
     (tie.spec
-    Inv-loop
-    μ-loop
     shared-slice-read-wide
     wide-requires
     returns
-    loop-holds
-    sub-k
-    add-wide
-    shared-slice-read-wide-2
-    wide-requires-2
-    mul-x
-    add-x
-    loop-less
-    loop-again
-    returns-2)
+    load2-requires
+    returns-2
+    load4-requires
+    returns-3
+    load8-requires
+    returns-4
+    load-bytes-requires
+    returns-5)

@@ -1,84 +1,69 @@
--- `memory::store` meets its contract: what is left to store, stored behind the bytes that were, gives the same memory throughout.
-use native.Mathlib.Omega.{arith}
-use Prim.Native.Nat.{_+_, _-_, _≤_}
-use mathlib.Core.Path.{_≡_, refl, sym, _∙_}
-use native.Mathlib.Nat.{add-zero, sub-zero}
-use lib.ListN.{length, length-set}
-use lib.Seq.{sets}
-use Rattle.engine.specs.Memory.{littleEndian}
-use Rattle.engine.proofs.ByteSteps.{byte-stored, none-to-store, one-stored}
+-- `memory::store` meets its contract: at each width by the function for it.
 use borrow.Author.Needs.{needs}
 use Rattle.engine.proofs.memory.store.Statement.{statement}
 use Rattle.engine.proofs.memory.store.Tie as tie
 
-abbrev Inv-loop : tie.InvT-loop
-Inv-loop bytes₀ at width x n rest₀ k₀ bytes rest k =
-    (k ≤ n) × (n ≡ width) × (length bytes ≡ length bytes₀) × (sets bytes (at + k) (littleEndian (width - k) rest) ≡ sets bytes₀ at (littleEndian width x))
+store1-requires : tie.Need-store1-requires
+store1-requires c κs = search needs
 
-abbrev μ-loop : tie.MeasureT-loop
-μ-loop bytes₀ at width x n rest₀ k₀ bytes rest k = n - k
-
-cast-bytes : tie.Need-cast-bytes Inv-loop μ-loop
-cast-bytes c = omega arith
-
-slice-write-bytes : tie.Need-slice-write-bytes Inv-loop μ-loop
-slice-write-bytes c = omega (arith, c .if1 .taken)
-
-same-length : tie.Need-same-length Inv-loop μ-loop
+same-length : tie.Need-same-length
 same-length c = search needs
 
-returns : tie.Need-returns Inv-loop μ-loop
-returns c =
-    let a = c .before .args in
-    sym (one-stored (a .bytes .now) (a .at) (a .width) (a .x) (c .if1 .taken))
+returns : tie.Need-returns
+returns c = rw (c .before .before .before .before .if1 .taken) (c .before .before .store1 .ensures)
 
-loop-holds : tie.Need-loop-holds Inv-loop μ-loop
-loop-holds c = (omega arith, refl, refl, rw (add-zero, sub-zero))
+store2-requires : tie.Need-store2-requires
+store2-requires c κs = search needs
 
-cast-bytes-2 : tie.Need-cast-bytes-2 Inv-loop μ-loop
-cast-bytes-2 c = omega arith
-
-add-bytes : tie.Need-add-bytes Inv-loop μ-loop
-add-bytes c = omega arith
-
-slice-write-bytes-2 : tie.Need-slice-write-bytes-2 Inv-loop μ-loop
-slice-write-bytes-2 c = omega arith
-
-add-k : tie.Need-add-k Inv-loop μ-loop
-add-k c = omega arith
-
-loop-less : tie.Need-loop-less Inv-loop μ-loop
-loop-less c = omega arith
-
-loop-again : tie.Need-loop-again Inv-loop μ-loop
-loop-again c =
-    let l = c .before .loop in
-    (omega arith, l .inv .1, simp length-set (l .inv .2), sym (byte-stored (l .bytes) _ (l .k) _ (l .rest) (omega arith)) ∙ l .inv .3)
-
-same-length-2 : tie.Need-same-length-2 Inv-loop μ-loop
+same-length-2 : tie.Need-same-length-2
 same-length-2 c = search needs
 
-returns-2 : tie.Need-returns-2 Inv-loop μ-loop
-returns-2 c =
-    let l = c .before .loop in
-    sym (none-to-store (l .bytes) _ _ (l .rest) (omega arith)) ∙ l .inv .3
+returns-2 : tie.Need-returns-2
+returns-2 c = rw (c .before .before .before .before .if2 .taken) (c .before .before .store2 .ensures)
+
+store4-requires : tie.Need-store4-requires
+store4-requires c κs = search needs
+
+same-length-3 : tie.Need-same-length-3
+same-length-3 c = search needs
+
+returns-3 : tie.Need-returns-3
+returns-3 c = rw (c .before .before .before .before .if3 .taken) (c .before .before .store4 .ensures)
+
+store8-requires : tie.Need-store8-requires
+store8-requires c κs = search needs
+
+same-length-4 : tie.Need-same-length-4
+same-length-4 c = search needs
+
+returns-4 : tie.Need-returns-4
+returns-4 c = rw (c .before .before .before .before .if4 .taken) (c .before .before .store8 .ensures)
+
+store-bytes-requires : tie.Need-store-bytes-requires
+store-bytes-requires c κs = search needs
+
+same-length-5 : tie.Need-same-length-5
+same-length-5 c = search needs
+
+returns-5 : tie.Need-returns-5
+returns-5 c = search needs
 
 pub store-spec : {M : Type 1} → statement M
 store-spec =
     tie.close
     (tie.spec
-    Inv-loop
-    μ-loop
-    cast-bytes
-    slice-write-bytes
+    store1-requires
     same-length
     returns
-    loop-holds
-    cast-bytes-2
-    add-bytes
-    slice-write-bytes-2
-    add-k
-    loop-less
-    loop-again
+    store2-requires
     same-length-2
-    returns-2)
+    returns-2
+    store4-requires
+    same-length-3
+    returns-3
+    store8-requires
+    same-length-4
+    returns-4
+    store-bytes-requires
+    same-length-5
+    returns-5)

@@ -1,9 +1,10 @@
 -- `walk::first` meets its contract: where the outermost dimension is about to run index 0, all elements are to come.
 use native.Mathlib.Omega.{arith}
 use Prim.Native.Nat.{ℕ, suc, _+_, _-_}
-use mathlib.Core.Path.{sym, _∙_}
-use lib.ListN.{replicate}
+use mathlib.Core.Path.{refl, sym, _∙_}
+use lib.ListN.{getD, replicate}
 use lib.Seq.{getD-drop}
+use Rattle.engine.specs.Rows.{shapeIn}
 use Rattle.engine.specs.WalkLaws.{getD-zeros}
 use Rattle.engine.specs.IndexLaws.{walk-start}
 use Rattle.engine.proofs.Found.{stands}
@@ -11,14 +12,24 @@ use borrow.Author.Needs.{needs}
 use Rattle.engine.proofs.walk.first.Statement.{statement}
 use Rattle.engine.proofs.walk.first.Tie as tie
 
+element-copy-out-n : tie.Need-element-copy-out-n
+element-copy-out-n c = search needs
+
 sub-seek : tie.Need-sub-seek
 sub-seek c = search needs
 
 seek-requires : tie.Need-seek-requires
-seek-requires c κs = ((c .pre, omega (arith, c .pre .some)), ((λ k. omega (arith, getD-zeros 7 k)), (λ k. omega (arith, getD-drop {A = ℕ} (suc (c .args .s .dims - 1)) (replicate 7 0) k 0, getD-zeros 7 (suc (c .args .s .dims - 1) + k)))))
+seek-requires c κs =
+    let a = c .before .before .before in (
+      (a .pre, omega (arith, a .pre .some), refl),
+      ((λ k. omega (arith, getD-zeros 7 k)), (λ k. omega (arith, getD-drop {A = ℕ} (suc (getD (a .args .shape .now) 7 0 - 1)) (replicate 7 0) k 0, getD-zeros 7 (suc (getD (a .args .shape .now) 7 0 - 1) + k)))),
+    )
 
 returns : tie.Need-returns
-returns c = stands (c .before .args .s) 0 (c .seek .result .found) (c .seek .result .index) _ (sym (walk-start (c .before .args .s) (record { some = c .before .pre .some; most = c .before .pre .ranged .dims })) ∙ c .seek .ensures)
+returns c =
+    let a = c .before .before .before .before in
+    let s = shapeIn (a .args .shape .now) in
+    stands s 0 (c .seek .result) (c .seek .last .1 .0) _ (sym (walk-start s (record { some = a .pre .some; most = a .pre .ranged .dims })) ∙ c .seek .ensures)
 
 pub first-spec : {M : Type 1} → statement M
-first-spec = tie.close (tie.spec sub-seek seek-requires returns)
+first-spec = tie.close (tie.spec element-copy-out-n sub-seek seek-requires returns)

@@ -1,0 +1,132 @@
+-- A register while a sheet runs, as the code keeps it: what changes with every chunk, and beside it the lanes, the indices of its
+-- element as a row of seven and the descriptors.
+--
+--   placeOf, spotted              where it stands in its row; a spot with its indices
+--   viewOf, bare                  the register that it stands for
+--   filledWith                    with another content
+--   Remembers                     what it remembers of the next element is so
+--   alongBy, restingAt, turnedTo  after some elements of its row; after the last element of its row
+--   listed                        the addresses of a chunk: a progression, or the front of an array
+--   Near, Looks                   a chunk looked at
+use Prim.Native.Nat.{ℕ, _+_, _≤_, _^_}
+use mathlib.Core.Path.{_≡_}
+use mathlib.Core.List.{List, []}
+use mathlib.Core.Bool.{Bool, true, cond}
+use lib.ListN.{length, take, set}
+use lib.IntN.{ℤ, pos, natAbs, _+ℤ_, _*ℤ_}
+use Rattle.codec.specs.declared.amounts.Bytes.{Bytes}
+use Rattle.engine.specs.Addresses.{noBytes}
+use Rattle.engine.specs.Chunks.{chunk}
+use Rattle.engine.specs.Registers.{isOpen, noPattern, movedBy}
+use Rattle.engine.specs.Places.{Place, placeAt, inRow}
+use Rattle.engine.specs.Stretches.{progression, addressesOf}
+use Rattle.engine.specs.declared.stream.Pattern.{Pattern}
+use Rattle.engine.specs.declared.place.Spot.{Spot}
+use Rattle.engine.specs.declared.register.State.the-variants.{Open, Finished}
+use Rattle.engine.specs.declared.register.Register.{Register}
+use Rattle.engine.specs.declared.running.Running.{Running}
+
+-- the place in its row at which a running register stands
+abbrev pub placeOf : List ℕ → Running → Place
+placeOf row q = inRow row (q .index) (q .address) (q .size) (q .step)
+
+-- a spot with its indices
+abbrev pub spotted : List ℕ → Spot → Place
+spotted row s = record { index = row; address = s .address; size = s .size; step = s .step }
+
+-- the register that a running one stands for
+abbrev pub viewOf : Pattern → List ℕ → List ℕ → Running → Register
+viewOf p lanes row q = record {
+  state = q .state;
+  width = q .width;
+  valid = q .valid;
+  lanes = lanes;
+  kind = q .kind;
+  pattern = p;
+  moved = q .moved;
+  index = set row 0 (q .index);
+  height = q .height;
+}
+
+-- the register without lanes, indices and descriptors: enough for its state, its kind and its width
+abbrev pub bare : Running → Register
+bare q = viewOf noPattern [] [] q
+
+-- with a content of so many lanes of a width
+abbrev pub filledWith : ℕ → ℕ → Running → Running
+filledWith width n q = record {
+  state = q .state;
+  kind = q .kind;
+  width = width;
+  valid = n;
+  moved = q .moved;
+  height = q .height;
+  index = q .index;
+  address = q .address;
+  size = q .size;
+  step = q .step;
+}
+
+-- what an open one remembers of its next element is so
+abbrev pub Remembers : Pattern → List ℕ → Running → Type 0
+Remembers p row q = isOpen (q .state) ≡ true → placeOf row q ≡ placeAt p (q .width) (set row 0 (q .index))
+
+-- after n elements more of its row, where it stands at another of it
+abbrev pub alongBy : ℕ → Running → Running
+alongBy n q = record {
+  state = Open;
+  kind = q .kind;
+  width = q .width;
+  valid = q .valid;
+  moved = q .moved + n;
+  height = 1;
+  index = q .index + n;
+  address = record { 0 = q .address .0 +ℤ (q .step .0 *ℤ pos n) };
+  size = q .size;
+  step = q .step;
+}
+
+-- open after n elements more, at innermost index i of a spot, with the flags' height
+abbrev pub restingAt : ℕ → ℕ → ℕ → Spot → Running → Running
+restingAt n h i s q = record {
+  state = Open;
+  kind = q .kind;
+  width = q .width;
+  valid = q .valid;
+  moved = q .moved + n;
+  height = h;
+  index = i;
+  address = s .address;
+  size = s .size;
+  step = s .step;
+}
+
+-- after n elements more and a step out of a row: open where the next element was found, or finished
+abbrev pub turnedTo : ℕ → Bool → ℕ → ℕ → Spot → Running → Running
+turnedTo n found h i s q = cond found (restingAt n h i s q) (record {
+  state = Finished;
+  kind = q .kind;
+  width = q .width;
+  valid = q .valid;
+  moved = q .moved + n;
+  height = h;
+  index = 0;
+  address = noBytes;
+  size = 0;
+  step = noBytes;
+})
+
+-- the addresses of a chunk: of a row a progression, else the first of an array
+abbrev pub listed : Bool → Bytes → Bytes → ℕ → List ℤ → List ℤ
+listed rowed start step n xs = cond rowed (progression (start .0) (step .0) n) (take n xs)
+
+-- an address and a step far from overflowing
+abbrev pub Near : Bytes → Bytes → Type 0
+Near a step = (natAbs (a .0) ≤ 2 ^ 55) × (natAbs (step .0) ≤ 2 ^ 51)
+
+-- a chunk of at most so many elements looked at: how many, their addresses, and the register and the row of indices after it
+pub record Looks (p : Pattern) (before : List ℕ) (q : Running) (most count : ℕ) (addresses : List ℤ) (row : List ℕ) (after : Running) : Type 0 where
+  pub counted : count ≡ length (chunk (p .shape) most (q .moved))
+  pub addressed : addresses ≡ addressesOf p (q .width) (chunk (p .shape) most (q .moved))
+  pub moved : (lanes : List ℕ) → viewOf p lanes row after ≡ movedBy count (viewOf p lanes before q)
+  pub remembers : Remembers p row after

@@ -1,0 +1,60 @@
+// The step out of a row.
+use crate::height::differ;
+use crate::place::Spot;
+use crate::place::spot_at;
+use crate::walk::next;
+use codec::amounts::Bytes;
+ghost use mathlib.Core.Path.{_≡_};
+ghost use mathlib.Core.List.{[]};
+ghost use mathlib.Core.Bool.{false};
+ghost use Prim.Native.Nat.{ℕ, suc, _≤_, _<_};
+ghost use lib.ListN.{length, getD, replicate};
+ghost use Rattle.engine.specs.Loops.{elements};
+ghost use Rattle.engine.specs.Registers.{indexOf};
+ghost use Rattle.engine.specs.Good.{RangedPattern, Accepted};
+ghost use Rattle.engine.specs.Walk.{Element};
+ghost use Rattle.engine.specs.Places.{Onward};
+ghost use Rattle.engine.specs.Rows.{shapeIn, patternIn};
+ghost use Rattle.engine.specs.Runnings.{spotted};
+
+// Whether there is a further element, where it lies, and the height of the flags there.
+pub(crate) struct Leaving {
+    pub found: bool,
+    pub height: u64,
+    pub spot: Spot,
+}
+
+// From an element to the next, wherever the search finds it: its indices take the place of the other's, zeros if there is none.
+pub(crate) fn leave_row(
+    shape: &[u64; 51],
+    places: &[i64; 15],
+    width: u64,
+    index: &mut [u64; 7],
+) -> Leaving
+    requires { ⌜ RangedPattern (patternIn (now shape) (now places)) × ((width ≤ 8) × Accepted (shapeIn (now shape))) ⌝ }
+    requires { ⌜ Element (shapeIn (now shape)) (now index) ⌝ }
+    ensures { λ r. ⌜ ((k : ℕ) → k < length (elements (shapeIn (now (shape .entry)))) → now (index .entry) ≡ indexOf (getD (elements (shapeIn (now (shape .entry)))) k []) → Onward (patternIn (now (shape .entry)) (now (places .entry))) width (suc k) (r .found) (spotted (now (index .exit)) (r .spot)) (r .height)) ⌝ }
+    ensures { λ r. ⌜ (r .found ≡ false → now (index .exit) ≡ replicate 7 0) ⌝ }
+{
+    let from = *index;
+    let found = next(shape, index);
+    if !found {
+        *index = [0; 7];
+        return Leaving {
+            found: false,
+            height: shape[7] + 1,
+            spot: Spot {
+                address: Bytes(0),
+                size: 0,
+                step: Bytes(0),
+            },
+        };
+    }
+    let to = *index;
+    let spot = spot_at(shape, places, width, index);
+    Leaving {
+        found: true,
+        height: differ(from, to),
+        spot,
+    }
+}

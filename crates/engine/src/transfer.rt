@@ -1,0 +1,261 @@
+// Elements of memory moved to and from the 64 bytes of a register, and lanes combined there. The elements of one row are a start, a step
+// and a count; elements of several rows are a list of addresses.
+use crate::address::plus;
+use crate::address::times;
+use crate::lane::lane;
+use crate::memory::inside;
+use crate::memory::load;
+use crate::memory::place;
+use crate::memory::store;
+use codec::amounts::Bytes;
+use codec::operation::Action;
+ghost use mathlib.Core.Path.{_≡_};
+ghost use mathlib.Core.Bool.{true};
+ghost use Prim.Native.Nat.{_+_, _*_, _^_, _≤_, _<_};
+ghost use lib.ListN.{length, getD, take, drop};
+ghost use lib.Seq.{sets};
+ghost use lib.IntN.{pos, natAbs};
+ghost use Rattle.engine.specs.Loops.{natural};
+ghost use Rattle.engine.specs.Addresses.{inside};
+ghost use Rattle.engine.specs.Memory.{valueAt, littleEndian, lanesFrom, packed};
+ghost use Rattle.engine.specs.ByteLaws.{Bytewise};
+ghost use Rattle.engine.specs.Lanes.{lane, lanewise};
+ghost use Rattle.engine.specs.Stretches.{progression, allWithin, fetchedAt, storedAt};
+
+// Whether all elements of a row lie inside a memory of `len` bytes: its first and its last do.
+pub(crate) fn row_within(start: Bytes, step: Bytes, n: usize, width: u64, len: usize) -> bool
+    requires { ⌜ (n ≤ 64) × ((width ≤ 8) × ((natAbs (start .0) ≤ 2 ^ 55) × (natAbs (step .0) ≤ 2 ^ 51))) ⌝ }
+    ensures { λ r. ⌜ r ≡ allWithin len width (progression (start .0) (step .0) n) ⌝ }
+{
+    if n == 0 {
+        return true;
+    }
+    if !inside(start, width, len) {
+        return false;
+    }
+    let last = plus(start, times(step, (n - 1) as u64));
+    inside(last, width, len)
+}
+
+// Address `k` of a list.
+fn address_at(addresses: &[i64], k: usize) -> Bytes
+    requires { ⌜ k < length (now addresses) ⌝ }
+    ensures { λ r. ⌜ r .0 ≡ getD (now (addresses .entry)) k (pos 0) ⌝ }
+{
+    Bytes(addresses[k])
+}
+
+// Whether the elements at the first `n` addresses all lie inside.
+pub(crate) fn all_within(addresses: &[i64; 64], n: usize, width: u64, len: usize) -> bool
+    requires { ⌜ (n ≤ 64) × (width ≤ 8) ⌝ }
+    ensures { λ r. ⌜ r ≡ allWithin len width (take n (now (addresses .entry))) ⌝ }
+{
+    let mut k = 0;
+    while k < n {
+        let a = address_at(addresses, k);
+        if !inside(a, width, len) {
+            return false;
+        }
+        k += 1;
+    }
+    true
+}
+
+// Copies `n` bytes, from `a` on, to where `b` is. Whoever copies one learns that they are bytes.
+fn copy(from: &[u8], a: usize, n: usize, to: &mut [u8], b: usize)
+    requires { ⌜ (a + n ≤ length (now from)) × (b + n ≤ length (now to)) ⌝ }
+    ensures { λ _. ⌜ (now (to .exit) ≡ sets (now (to .entry)) b (take n (drop a (now (from .entry))))) × (0 < n → Bytewise (now (from .entry))) ⌝ }
+{
+    let mut k = 0;
+    while k < n {
+        to[b + k] = from[a + k];
+        k += 1;
+    }
+}
+
+// Looks at the first byte, if there is one. Whoever looks at one learns that all are bytes.
+pub(crate) fn look_at(bytes: &[u8]) -> u8
+    ensures { λ _. ⌜ Bytewise (now (bytes .entry)) ⌝ }
+{
+    if bytes.len() == 0 {
+        return 0;
+    }
+    bytes[0]
+}
+
+// Whether elements a step apart lie side by side.
+fn adjacent(step: Bytes, width: u64) -> bool
+    requires { ⌜ width ≤ 8 ⌝ }
+    ensures { λ r. ⌜ (r ≡ true → step .0 ≡ pos width) ⌝ }
+{
+    let x = step.0;
+    x == (width as i64)
+}
+
+// The element at address `a` becomes lane `k`.
+fn read_lane(memory: &[u8], a: Bytes, width: u64, lanes: &mut [u8; 64], k: usize)
+    requires { ⌜ (k * width + width ≤ 64) × ((width ≤ 8) × (inside (length (now memory)) width (a .0) ≡ true)) ⌝ }
+    ensures { λ _. ⌜ now (lanes .exit) ≡ sets (now (lanes .entry)) (k * width) (littleEndian width (valueAt (now (memory .entry)) (natural (a .0)) width)) ⌝ }
+{
+    let x = load(memory, place(a), width);
+    let at = k * (width as usize);
+    store(lanes, at, width, x);
+}
+
+// Lane `k` is written to address `a`.
+fn write_lane(memory: &mut [u8], a: Bytes, width: u64, lanes: &[u8; 64], k: usize)
+    requires { ⌜ (k * width + width ≤ 64) × ((width ≤ 8) × (inside (length (now memory)) width (a .0) ≡ true)) ⌝ }
+    ensures { λ _. ⌜ now (memory .exit) ≡ sets (now (memory .entry)) (natural (a .0)) (littleEndian width (valueAt (now (lanes .entry)) (k * width) width)) ⌝ }
+{
+    let at = k * (width as usize);
+    let x = load(lanes, at, width);
+    store(memory, place(a), width, x);
+}
+
+// The elements of a row become a register's lanes, zeros behind. Elements side by side are copied byte by byte.
+pub(crate) fn read_row(
+    memory: &[u8],
+    start: Bytes,
+    step: Bytes,
+    n: usize,
+    width: u64,
+    lanes: &mut [u8; 64],
+)
+    requires { ⌜ ((1 ≤ width) × (width ≤ 8)) × (n * width ≤ 64) ⌝ }
+    requires { ⌜ (natAbs (start .0) ≤ 2 ^ 55) × (natAbs (step .0) ≤ 2 ^ 51) ⌝ }
+    requires { ⌜ allWithin (length (now memory)) width (progression (start .0) (step .0) n) ≡ true ⌝ }
+    ensures { λ _. ⌜ now (lanes .exit) ≡ packed width (fetchedAt (now (memory .entry)) width (progression (start .0) (step .0) n)) ⌝ }
+{
+    *lanes = [0; 64];
+    if n == 0 {
+        return;
+    }
+    if adjacent(step, width) {
+        let bytes = n * (width as usize);
+        copy(memory, place(start), bytes, lanes, 0);
+        return;
+    }
+    let mut a = start;
+    let mut k = 0;
+    while k < n {
+        read_lane(memory, a, width, lanes, k);
+        a = plus(a, step);
+        k += 1;
+    }
+}
+
+// The elements at the first `n` addresses become a register's lanes, zeros behind.
+pub(crate) fn read_at(
+    memory: &[u8],
+    addresses: &[i64; 64],
+    n: usize,
+    width: u64,
+    lanes: &mut [u8; 64],
+)
+    requires { ⌜ ((1 ≤ width) × (width ≤ 8)) × (n * width ≤ 64) ⌝ }
+    requires { ⌜ allWithin (length (now memory)) width (take n (now addresses)) ≡ true ⌝ }
+    ensures { λ _. ⌜ now (lanes .exit) ≡ packed width (fetchedAt (now (memory .entry)) width (take n (now (addresses .entry)))) ⌝ }
+{
+    *lanes = [0; 64];
+    let mut k = 0;
+    while k < n {
+        let a = address_at(addresses, k);
+        read_lane(memory, a, width, lanes, k);
+        k += 1;
+    }
+}
+
+// A register's first `n` lanes are written to the elements of a row.
+pub(crate) fn write_row(
+    memory: &mut [u8],
+    start: Bytes,
+    step: Bytes,
+    n: usize,
+    width: u64,
+    lanes: &[u8; 64],
+)
+    requires { ⌜ ((1 ≤ width) × (width ≤ 8)) × (n * width ≤ 64) ⌝ }
+    requires { ⌜ (natAbs (start .0) ≤ 2 ^ 55) × (natAbs (step .0) ≤ 2 ^ 51) ⌝ }
+    requires { ⌜ allWithin (length (now memory)) width (progression (start .0) (step .0) n) ≡ true ⌝ }
+    ensures { λ _. ⌜ now (memory .exit) ≡ storedAt (now (memory .entry)) width (progression (start .0) (step .0) n) (lanesFrom (now (lanes .entry)) width 0 n) ⌝ }
+{
+    if n == 0 {
+        return;
+    }
+    if adjacent(step, width) {
+        let bytes = n * (width as usize);
+        copy(lanes, 0, bytes, memory, place(start));
+        return;
+    }
+    let mut a = start;
+    let mut k = 0;
+    while k < n {
+        write_lane(memory, a, width, lanes, k);
+        a = plus(a, step);
+        k += 1;
+    }
+}
+
+// A register's first `n` lanes are written to the first `n` addresses, one after the other.
+pub(crate) fn write_at(
+    memory: &mut [u8],
+    addresses: &[i64; 64],
+    n: usize,
+    width: u64,
+    lanes: &[u8; 64],
+)
+    requires { ⌜ ((1 ≤ width) × (width ≤ 8)) × (n * width ≤ 64) ⌝ }
+    requires { ⌜ allWithin (length (now memory)) width (take n (now addresses)) ≡ true ⌝ }
+    ensures { λ _. ⌜ now (memory .exit) ≡ storedAt (now (memory .entry)) width (take n (now (addresses .entry))) (lanesFrom (now (lanes .entry)) width 0 n) ⌝ }
+{
+    let mut written = 0;
+    while written < n {
+        let a = address_at(addresses, written);
+        write_lane(memory, a, width, lanes, written);
+        written += 1;
+    }
+}
+
+// Whether an action copies its first source.
+fn is_copy(action: Action) -> bool
+    ensures { λ r. ⌜ (r ≡ true → action ≡ Action.Copy) ⌝ }
+{
+    match action {
+        Action::Copy => true,
+        Action::Add => false,
+        Action::Subtract => false,
+        Action::And => false,
+        Action::Or => false,
+        Action::Xor => false,
+        Action::Smaller => false,
+        Action::Larger => false,
+    }
+}
+
+// The action on the first `n` lanes of two sources, lane by lane, zeros behind. A copy needs no numbers.
+pub(crate) fn combine_lanes(
+    action: Action,
+    width: u64,
+    n: usize,
+    first: &[u8; 64],
+    second: &[u8; 64],
+    out: &mut [u8; 64],
+)
+    requires { ⌜ ((1 ≤ width) × (width ≤ 8)) × (n * width ≤ 64) ⌝ }
+    ensures { λ _. ⌜ now (out .exit) ≡ packed width (lanewise (lane action (8 * width)) (lanesFrom (now (first .entry)) width 0 n) (lanesFrom (now (second .entry)) width 0 n)) ⌝ }
+{
+    *out = [0; 64];
+    if is_copy(action) {
+        let bytes = n * (width as usize);
+        copy(first, 0, bytes, out, 0);
+        return;
+    }
+    let mut k = 0;
+    while k < n {
+        let at = k * (width as usize);
+        let a = load(first, at, width);
+        let b = load(second, at, width);
+        store(out, at, width, lane(action, width, a, b));
+        k += 1;
+    }
+}
