@@ -20,8 +20,8 @@ use Rattle.codec.specs.TestLaws.{never}
 use Rattle.engine.specs.Loops.{natural}
 use Rattle.engine.specs.Chunks.{chunk}
 use Rattle.engine.specs.Addresses.{noBytes, address}
-use Rattle.engine.specs.Memory.{valueAt, lanesFrom, packed, contents, holding}
-use Rattle.engine.specs.Registers.{isOpen, movedBy}
+use Rattle.engine.specs.Memory.{valueAt, lanesFrom, packed, holding}
+use Rattle.engine.specs.Registers.{isOpen}
 use Rattle.engine.specs.Places.{placeAt}
 use Rattle.engine.specs.Stretches.{fetchedAt}
 use Rattle.engine.specs.Runnings.{viewOf, Remembers, filledWith, Near, Looks}
@@ -32,7 +32,6 @@ use Rattle.engine.specs.EffectLaws.{length-lanes, lanewise-length}
 use Rattle.engine.specs.Operands.{Operates, operandOf, Taken, lanesOf}
 use Rattle.engine.specs.Calculations.{listedIn, lanesIn}
 use Rattle.engine.specs.declared.stream.Pattern.{Pattern}
-use Rattle.engine.specs.declared.register.Register.{Register}
 use Rattle.engine.specs.declared.running.Running.{Running}
 use Rattle.engine.specs.declared.ahead.Ahead.{Ahead}
 

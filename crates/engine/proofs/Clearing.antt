@@ -4,7 +4,7 @@
 --   turned-down        a refused calculation
 --   by-operands        why, once states and widths fit
 --   stopped, cleared   refused by an operand, or not at all
-use Prim.Native.Nat.{ℕ, _*_, _/_, _≤_}
+use Prim.Native.Nat.{ℕ, _/_, _≤_}
 use mathlib.Core.Path.{_≡_, refl, sym, _∙_, ap, subst}
 use mathlib.Core.List.{List, []}
 use mathlib.Core.Bool.{Bool, true, false, not, _&&_, _||_}
@@ -21,8 +21,8 @@ use Rattle.engine.specs.Stretches.{allWithin}
 use Rattle.engine.specs.Places.{Ready}
 use Rattle.engine.specs.LaneLaws.{width-range}
 use Rattle.engine.specs.Runnings.{viewOf, bare}
-use Rattle.engine.specs.Operands.{Operates, operandOf, Taken, whyOn}
-use Rattle.engine.specs.Calculations.{listedIn, Fit, Within, Cleared}
+use Rattle.engine.specs.Operands.{operandOf, Taken, whyOn}
+use Rattle.engine.specs.Calculations.{listedIn, Fit, Cleared}
 use Rattle.engine.proofs.Ordered.{states, after, widths, flags, fits, one-width, store-width, target-few}
 use Rattle.engine.proofs.Carrying.{taken-long}
 use Rattle.engine.specs.declared.check.Why.{Why}

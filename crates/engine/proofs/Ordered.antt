@@ -7,7 +7,7 @@ use native.Mathlib.Omega.{arith}
 use native.Mathlib.Nat.{le-div-iff-mul-le, le-refl}
 use lib.ListN.{length, take}
 use lib.Dec.{eqb, ltb}
-use borrow.Author.Tests.{eqb-true, ltb-false, not-false}
+use borrow.Author.Tests.{eqb-true, not-false}
 use Rattle.codec.specs.TestLaws.{or-false, and-false}
 use Rattle.codec.specs.declared.operation.Action.{Action}
 use Rattle.codec.specs.declared.refusal.Refusal.{Refusal}

@@ -2,8 +2,8 @@
 --
 --   fit-at                        each of them is fit for a calculation
 --   after-width, remembers-written   a register after its chunk
---   calculated, refused-so        a calculation that was carried out, or refused, as the definitions have it
---   Laid, laid-on                 the arrays of a run; after a calculation
+--   round, refused-so             a calculation that was carried out, or refused, as the definitions have it
+--   Laid, three-on                the arrays of a run; after a calculation
 use Prim.Native.Nat.{ℕ, _*_, _/_, _≤_, _<_}
 use mathlib.Core.Path.{_≡_, refl, sym, _∙_, ap, ap₂, subst}
 use mathlib.Core.List.{List, []}
@@ -150,7 +150,7 @@ module _ (vl : ℕ) (same : Bool) (pa pb pd : Pattern) (a b d : Running) (va vb 
     out = ap₂ (lanewise (lane action (8 * a .width))) first-lanes second-lanes
 
     -- a calculation that was carried out
-    pub calculated : Calculated vl action memory (viewOf pa la va a) (viewOf pb lb vb b) (viewOf pd ld vd d) (r .why) (viewOf pa la' va' (q .first)) (viewOf pb lb' vb' (q .second)) (viewOf pd ld' vd' (q .destination)) memory'
+    calculated : Calculated vl action memory (viewOf pa la va a) (viewOf pb lb vb b) (viewOf pd ld vd d) (r .why) (viewOf pa la' va' (q .first)) (viewOf pb lb' vb' (q .second)) (viewOf pd ld' vd' (q .destination)) memory'
     calculated =
         let w = c .within e in
         let x = operandOf pa la va' xs (r .first) in
@@ -176,14 +176,19 @@ module _ (vl : ℕ) (same : Bool) (pa pb pd : Pattern) (a b d : Running) (va vb 
         })
 
     -- what the three registers remember
-    pub remember-first : Remembers pa va' (q .first)
+    remember-first : Remembers pa va' (q .first)
     remember-first = remembers-filled pa va' (r .first .live) (a .width) (r .first .count) (r .first .after) (q .first) (after-width pa va va' a (vl / a .width) (a .valid) xs (r .first) tx) (tx .remembers) (k .read)
 
-    pub remember-second : Remembers pb vb' (q .second)
+    remember-second : Remembers pb vb' (q .second)
     remember-second = remembers-filled pb vb' (r .second .live) (a .width) (r .second .count) (r .second .after) (q .second) (after-width pb vb vb' b (vl / b .width) (b .valid) ys (r .second) ty ∙ one) (ty .remembers) (k .other)
 
-    pub remember-third : Remembers pd vd' (q .destination)
+    remember-third : Remembers pd vd' (q .destination)
     remember-third = remembers-written pd vd vd' d (r .first .count) (r .first .count) zs (r .destination) tz (a .width) (r .first .count) (q .destination) (k .written)
+
+    -- the calculation, and what the three registers remember after it
+    pub round : Calculated vl action memory (viewOf pa la va a) (viewOf pb lb vb b) (viewOf pd ld vd d) (r .why) (viewOf pa la' va' (q .first)) (viewOf pb lb' vb' (q .second)) (viewOf pd ld' vd' (q .destination)) memory'
+        × (Remembers pa va' (q .first) × (Remembers pb vb' (q .second) × Remembers pd vd' (q .destination)))
+    round = (calculated, (remember-first, (remember-second, remember-third)))
 
 -- the arrays of a run: laid out, with room for addresses, beside a memory of so many bytes
 pub record Laid (shapes : List (List ℕ)) (places : List (List ℤ)) (lanes indices : List (List ℕ)) (all : List Running) (xs ys zs : List ℤ) (len : ℕ) (memory : List ℕ) : Type 0 where
@@ -203,13 +208,19 @@ module _ (shapes : List (List ℕ)) (places : List (List ℤ)) (lanes indices : 
   laid2 : LaidOut shapes places (set (set lanes i la) j lb) (set (set indices i va) j vb) (set (set all i f) j s)
   laid2 = laid-set shapes places (set lanes i la) (set indices i va) (set all i f) laid1 j hj lb vb s ms
 
-  pub laid-on : LaidOut shapes places (set (set (set lanes i la) j lb) t ld) (set (set (set indices i va) j vb) t vd) (set (set (set all i f) j s) t w)
+  laid-on : LaidOut shapes places (set (set (set lanes i la) j lb) t ld) (set (set (set indices i va) j vb) t vd) (set (set (set all i f) j s) t w)
   laid-on = laid-set shapes places (set (set lanes i la) j lb) (set (set indices i va) j vb) (set (set all i f) j s) laid2 t ht ld vd w mw
 
-  pub views-on : registersIn shapes places (set (set (set lanes i la) j lb) t ld) (set (set (set indices i va) j vb) t vd) (set (set (set all i f) j s) t w)
+  views-on : registersIn shapes places (set (set (set lanes i la) j lb) t ld) (set (set (set indices i va) j vb) t vd) (set (set (set all i f) j s) t w)
       ≡ set (set (set (registersIn shapes places lanes indices all) i (viewOf (patternAt shapes places i) la va f)) j (viewOf (patternAt shapes places j) lb vb s)) t (viewOf (patternAt shapes places t) ld vd w)
   views-on =
       views-set shapes places (set (set lanes i la) j lb) (set (set indices i va) j vb) (set (set all i f) j s) laid2 t ht ld vd w
       ∙ ap (λ l. set l t (viewOf (patternAt shapes places t) ld vd w))
       (views-set shapes places (set lanes i la) (set indices i va) (set all i f) laid1 j hj lb vb s
       ∙ ap (λ l. set l j (viewOf (patternAt shapes places j) lb vb s)) (views-set shapes places lanes indices all o i hi la va f))
+
+  -- the arrays after them, and the registers that they stand for
+  pub three-on : LaidOut shapes places (set (set (set lanes i la) j lb) t ld) (set (set (set indices i va) j vb) t vd) (set (set (set all i f) j s) t w)
+      × (registersIn shapes places (set (set (set lanes i la) j lb) t ld) (set (set (set indices i va) j vb) t vd) (set (set (set all i f) j s) t w)
+      ≡ set (set (set (registersIn shapes places lanes indices all) i (viewOf (patternAt shapes places i) la va f)) j (viewOf (patternAt shapes places j) lb vb s)) t (viewOf (patternAt shapes places t) ld vd w))
+  three-on = (laid-on, views-on)

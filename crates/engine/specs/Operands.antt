@@ -5,7 +5,7 @@
 --   lanesOf                        the lanes that an operand gives
 --   resultsOn, whyOn, Calculated   a calculation on three registers and a memory
 --   lanesOut, CarriedOut           the calculation carried out on operands
-use Prim.Native.Nat.{ℕ, _*_, _≤_}
+use Prim.Native.Nat.{ℕ, _*_}
 use mathlib.Core.Path.{_≡_}
 use mathlib.Core.List.{List}
 use mathlib.Core.Bool.{Bool, true, cond}
@@ -19,9 +19,8 @@ use Rattle.engine.specs.Checks.{firstOf}
 use Rattle.engine.specs.Configure.{unlessBecause}
 use Rattle.engine.specs.Calculate.{given, checksOn, readFrom, writtenTo, memoryAfter}
 use Rattle.engine.specs.Registers.{isOpen, shapeOf, movedBy}
-use Rattle.engine.specs.Stretches.{addressesOf, allWithin, fetchedAt, storedAt}
+use Rattle.engine.specs.Stretches.{addressesOf, fetchedAt, storedAt}
 use Rattle.engine.specs.Runnings.{viewOf, Remembers, listed, Near}
-use Rattle.engine.specs.Good.{IsWidth}
 use Rattle.engine.specs.declared.check.Why.{Why}
 use Rattle.engine.specs.declared.check.Why.the-variants.{Nothing}
 use Rattle.engine.specs.declared.register.Register.{Register}

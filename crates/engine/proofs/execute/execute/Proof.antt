@@ -2,18 +2,19 @@
 use native.Mathlib.Omega.{arith}
 use Prim.Native.Nat.{ℕ, _+_, _-_, _≤_, _<_}
 use mathlib.Core.Path.{_≡_, refl, sym, _∙_, ap, subst}
-use mathlib.Core.List.{[]}
+use mathlib.Core.List.{List, []}
 use lib.ListN.{length, getD, take}
 use lib.Dec.{eqb}
 use Rattle.engine.specs.Registers.{isOpen, toCome, noRegister, reg}
 use Rattle.engine.specs.CalculationLaws.{Named}
 use Rattle.engine.specs.Rows.{patternAt}
-use Rattle.engine.specs.Runnings.{viewOf}
-use Rattle.engine.specs.Calculations.{Cleared, Within}
+use lib.IntN.{ℤ}
+use Rattle.codec.specs.declared.operation.Calculation.{Calculation}
+use Rattle.engine.specs.Calculations.{Fit, Cleared}
 use Rattle.engine.specs.Layouts.{noRunning, registersIn}
 use Rattle.engine.specs.LayoutLaws.{views-at, patterns-set}
 use Rattle.engine.proofs.PassSteps.{machineOf, Passing, passing, named-here, passing-on, passing-no, Passes, passes-begun, passes-over, passes-no, passes-fewer, passes-on}
-use Rattle.engine.proofs.Rounds.{Laid, fit-at, lanes-long, calculated-at, calculated, refused-so, remember-first, remember-second, remember-third, laid-on, views-on}
+use Rattle.engine.proofs.Rounds.{Laid, fit-at, lanes-long, calculated-at, round, refused-so, three-on}
 use borrow.Author.Tests.{eqb-true}
 use Rattle.engine.specs.declared.run.Verdict.the-variants.{Done, Refused}
 use Rattle.engine.specs.declared.register.Register.{Register}
@@ -44,6 +45,23 @@ abbrev μ-loop : tie.MeasureT-loop
 -- the calculation at hand names registers
 named : (c : tie.In-loop2 Inv-loop2 μ-loop2 Inv-loop μ-loop) → Named (getD (c .before .before .before .before .before .before .before .before .before .before .before .before .before .args .body .steps) (c .before .loop2 .k) noStep .calculation)
 named c = named-here _ _ _ _ _ _ _ _ _ _ _ (c .before .loop2 .inv .0) (c .loop2-test .taken) (omega (arith, c .before .before .before .loop .inv .0, c .before .before .before .loop .inv .1))
+
+-- it, and the descriptors of all registers
+abbrev calculation : (m : tie.In-loop2 Inv-loop2 μ-loop2 Inv-loop μ-loop) → Calculation
+calculation m = getD (m .before .before .before .before .before .before .before .before .before .before .before .before .before .args .body .steps) (m .before .loop2 .k) noStep .calculation
+
+abbrev shapes : (m : tie.In-loop2 Inv-loop2 μ-loop2 Inv-loop μ-loop) → List (List ℕ)
+shapes m = m .before .before .before .before .before .before .lay-out .last .1 .0
+
+abbrev places : (m : tie.In-loop2 Inv-loop2 μ-loop2 Inv-loop μ-loop) → List (List ℤ)
+places m = m .before .before .before .before .before .before .lay-out .last .1 .1 .0
+
+-- each register is fit for a calculation, and has 64 bytes of lanes
+fits : (m : tie.In-loop2 Inv-loop2 μ-loop2 Inv-loop μ-loop) (i : ℕ) → i < 32 → Fit (m .before .before .before .before .before .before .before .before .before .before .before .before .before .args .vl) (patternAt (shapes m) (places m) i) (getD (m .before .loop2 .indices) i []) (getD (m .before .loop2 .all) i noRunning)
+fits m = let l = m .before .loop2 in fit-at (shapes m) (places m) (l .lanes) (l .indices) (l .all) (l .inv .1 .out) (m .before .before .before .before .before .before .before .before .before .before .before .before .before .args .vl) (l .inv .0 .good)
+
+sixty-four : (m : tie.In-loop2 Inv-loop2 μ-loop2 Inv-loop μ-loop) (i : ℕ) → i < 32 → length (getD (m .before .loop2 .lanes) i []) ≡ 64
+sixty-four m = let l = m .before .loop2 in lanes-long (shapes m) (places m) (l .lanes) (l .indices) (l .all) (l .inv .1 .out) (m .before .before .before .before .before .before .before .before .before .before .before .before .before .args .vl) (l .inv .0 .good)
 
 lay-out-requires : tie.Need-lay-out-requires Inv-loop2 μ-loop2 Inv-loop μ-loop
 lay-out-requires c κs = ((c .before .before .before .before .before .before .args .vl, c .before .before .before .before .before .before .pre .1 .1 .0), search needs)
@@ -119,21 +137,15 @@ check-calculation-requires : tie.Need-check-calculation-requires Inv-loop2 μ-lo
 check-calculation-requires c κs =
     let m = c .before .before .before .before .before .before .before .before .before .before .before .before .before .before .before .before in
     let l = m .before .loop2 in
-    let o = m .before .before .before .loop in
-    let y = m .before .before .before .before .before .before .lay-out in
     let a = m .before .before .before .before .before .before .before .before .before .before .before .before .before in
-    let sh = y .last .1 .0 in
-    let pl = y .last .1 .1 .0 in
-    let z = getD (a .args .body .steps) (l .k) noStep .calculation in
-    let n = named m in
-    let f = fit-at sh pl (l .lanes) (l .indices) (l .all) (l .inv .1 .out) (a .args .vl) (l .inv .0 .good) in (
-      ((a .pre .0 .0 .0, a .pre .0 .0 .1), (n .first, (n .second, n .destination))),
+    let f = fits m in (
+      ((a .pre .0 .0 .0, a .pre .0 .0 .1), (named m .first, (named m .second, named m .destination))),
       (
         (l .inv .1 .firsts, (l .inv .1 .seconds, l .inv .1 .thirds)),
         (
-          (f (z .first) (n .first), (f (z .second) (n .second), f (z .destination) (n .destination))),
+          (f (calculation m .first) (named m .first), (f (calculation m .second) (named m .second), f (calculation m .destination) (named m .destination))),
           λ t.
-              let e = sym (eqb-true (z .first) (z .second) t) in
+              let e = sym (eqb-true (calculation m .first) (calculation m .second) t) in
               (ap (λ i. getD (l .all) i noRunning) e, (e, ap (λ i. getD (l .indices) i []) e)),
         ),
       ),
@@ -146,42 +158,24 @@ enum-known-why c = search needs
 checked : (c : tie.After-check-calculation Inv-loop2 μ-loop2 Inv-loop μ-loop) →
     let m = c .before .before .before .before .before .before .before .before .before .before .before .before .before .before .before .before .before in
     let l = m .before .loop2 in
-    let o = m .before .before .before .loop in
-    let y = m .before .before .before .before .before .before .lay-out in
     let a = m .before .before .before .before .before .before .before .before .before .before .before .before .before in
-    let sh = y .last .1 .0 in
-    let pl = y .last .1 .1 .0 in
-    let z = getD (a .args .body .steps) (l .k) noStep .calculation in
-    let n = named m in
     let k = c .check-calculation in
-    Cleared (a .args .vl) (length (l .memory)) (eqb (z .first) (z .second)) (patternAt sh pl (z .first)) (patternAt sh pl (z .second)) (patternAt sh pl (z .destination)) (getD (l .all) (z .first) noRunning) (getD (l .all) (z .second) noRunning) (getD (l .all) (z .destination) noRunning)
-    (getD (l .indices) (z .first) []) (getD (l .indices) (z .second) []) (getD (l .indices) (z .destination) []) (k .last .1 .1 .1 .1 .1 .1 .1 .1 .1 .1 .1 .0) (k .last .1 .1 .1 .1 .1 .1 .1 .1 .1 .1 .1 .1 .0) (k .last .1 .1 .1 .1 .1 .1 .1 .1 .1 .1 .1 .1 .1 .0) (k .last .1 .1 .1 .1 .1 .1 .1 .1 .1 .1 .1 .1 .1 .1 .0) (k .last .1 .1 .1 .1 .1 .1 .1 .1 .1 .1 .1 .1 .1 .1 .1 .0) (k .last .1 .1 .1 .1 .1 .1 .1 .1 .1 .1 .1 .1 .1 .1 .1 .1 .0) (k .result)
+    Cleared (a .args .vl) (length (l .memory)) (eqb (calculation m .first) (calculation m .second)) (patternAt (shapes m) (places m) (calculation m .first)) (patternAt (shapes m) (places m) (calculation m .second)) (patternAt (shapes m) (places m) (calculation m .destination)) (getD (l .all) (calculation m .first) noRunning) (getD (l .all) (calculation m .second) noRunning) (getD (l .all) (calculation m .destination) noRunning)
+    (getD (l .indices) (calculation m .first) []) (getD (l .indices) (calculation m .second) []) (getD (l .indices) (calculation m .destination) []) (k .last .1 .1 .1 .1 .1 .1 .1 .1 .1 .1 .1 .0) (k .last .1 .1 .1 .1 .1 .1 .1 .1 .1 .1 .1 .1 .0) (k .last .1 .1 .1 .1 .1 .1 .1 .1 .1 .1 .1 .1 .1 .0) (k .last .1 .1 .1 .1 .1 .1 .1 .1 .1 .1 .1 .1 .1 .1 .0) (k .last .1 .1 .1 .1 .1 .1 .1 .1 .1 .1 .1 .1 .1 .1 .1 .0) (k .last .1 .1 .1 .1 .1 .1 .1 .1 .1 .1 .1 .1 .1 .1 .1 .1 .0) (k .result)
 checked c =
     let m = c .before .before .before .before .before .before .before .before .before .before .before .before .before .before .before .before .before in
     let l = m .before .loop2 in
-    let o = m .before .before .before .loop in
-    let y = m .before .before .before .before .before .before .lay-out in
     let a = m .before .before .before .before .before .before .before .before .before .before .before .before .before in
-    let sh = y .last .1 .0 in
-    let pl = y .last .1 .1 .0 in
-    let z = getD (a .args .body .steps) (l .k) noStep .calculation in
-    let n = named m in
     let k = c .check-calculation in
-    subst (λ w. Cleared (a .args .vl) w (eqb (z .first) (z .second)) (patternAt sh pl (z .first)) (patternAt sh pl (z .second)) (patternAt sh pl (z .destination)) (getD (l .all) (z .first) noRunning) (getD (l .all) (z .second) noRunning) (getD (l .all) (z .destination) noRunning)
-    (getD (l .indices) (z .first) []) (getD (l .indices) (z .second) []) (getD (l .indices) (z .destination) []) (k .last .1 .1 .1 .1 .1 .1 .1 .1 .1 .1 .1 .0) (k .last .1 .1 .1 .1 .1 .1 .1 .1 .1 .1 .1 .1 .0) (k .last .1 .1 .1 .1 .1 .1 .1 .1 .1 .1 .1 .1 .1 .0) (k .last .1 .1 .1 .1 .1 .1 .1 .1 .1 .1 .1 .1 .1 .1 .0) (k .last .1 .1 .1 .1 .1 .1 .1 .1 .1 .1 .1 .1 .1 .1 .1 .0) (k .last .1 .1 .1 .1 .1 .1 .1 .1 .1 .1 .1 .1 .1 .1 .1 .1 .0) (k .result)) (sym (l .inv .1 .long)) (k .ensures .0)
+    subst (λ w. Cleared (a .args .vl) w (eqb (calculation m .first) (calculation m .second)) (patternAt (shapes m) (places m) (calculation m .first)) (patternAt (shapes m) (places m) (calculation m .second)) (patternAt (shapes m) (places m) (calculation m .destination)) (getD (l .all) (calculation m .first) noRunning) (getD (l .all) (calculation m .second) noRunning) (getD (l .all) (calculation m .destination) noRunning)
+    (getD (l .indices) (calculation m .first) []) (getD (l .indices) (calculation m .second) []) (getD (l .indices) (calculation m .destination) []) (k .last .1 .1 .1 .1 .1 .1 .1 .1 .1 .1 .1 .0) (k .last .1 .1 .1 .1 .1 .1 .1 .1 .1 .1 .1 .1 .0) (k .last .1 .1 .1 .1 .1 .1 .1 .1 .1 .1 .1 .1 .1 .0) (k .last .1 .1 .1 .1 .1 .1 .1 .1 .1 .1 .1 .1 .1 .1 .0) (k .last .1 .1 .1 .1 .1 .1 .1 .1 .1 .1 .1 .1 .1 .1 .1 .0) (k .last .1 .1 .1 .1 .1 .1 .1 .1 .1 .1 .1 .1 .1 .1 .1 .1 .0) (k .result)) (sym (l .inv .1 .long)) (k .ensures .0)
 
 rejoined-requires : tie.Need-rejoined-requires Inv-loop2 μ-loop2 Inv-loop μ-loop
 rejoined-requires c κs =
     let m = c .before .before .before .before .before .before .before .before .before .before .before .before .before .before .before .before .before .before .before .before .before .before .before .before in
     let l = m .before .loop2 in
-    let o = m .before .before .before .loop in
     let y = m .before .before .before .before .before .before .lay-out in
-    let a = m .before .before .before .before .before .before .before .before .before .before .before .before .before in
-    let sh = y .last .1 .0 in
-    let pl = y .last .1 .1 .0 in
-    let z = getD (a .args .body .steps) (l .k) noStep .calculation in
-    let n = named m in
-    (l .inv .1 .out, λ k h. ap (λ rs. getD rs k noRegister .pattern) (sym (y .ensures .1)) ∙ patterns-set sh pl (y .last .1 .1 .1 .0) (y .last .1 .1 .1 .1 .0) (y .result) k h)
+    (l .inv .1 .out, λ k h. ap (λ rs. getD rs k noRegister .pattern) (sym (y .ensures .1)) ∙ patterns-set (shapes m) (places m) (y .last .1 .1 .1 .0) (y .last .1 .1 .1 .1 .0) (y .result) k h)
 
 same-length : tie.Need-same-length Inv-loop2 μ-loop2 Inv-loop μ-loop
 same-length c = let m = c .before .before .before .before .before .before .before .before .before .before .before .before .before .before .before .before .before .before .before .before .before .before .before .before .before in m .before .loop2 .inv .0 .long ∙ m .before .before .before .loop .inv .2 .long
@@ -190,20 +184,15 @@ returns : tie.Need-returns Inv-loop2 μ-loop2 Inv-loop μ-loop
 returns c =
     let m = c .before .before .before .before .before .before .before .before .before .before .before .before .before .before .before .before .before .before .before .before .before .before .before .before .before in
     let l = m .before .loop2 in
-    let o = m .before .before .before .loop in
-    let y = m .before .before .before .before .before .before .lay-out in
     let a = m .before .before .before .before .before .before .before .before .before .before .before .before .before in
-    let sh = y .last .1 .0 in
-    let pl = y .last .1 .1 .0 in
-    let z = getD (a .args .body .steps) (l .k) noStep .calculation in
-    let n = named m in
+    let o = m .before .before .before .loop in
     let k = c .before .before .before .before .before .before .before .before .check-calculation in
     let r : Register = noRegister in
-    let h = refused-so (a .args .vl) (eqb (z .first) (z .second)) (patternAt sh pl (z .first)) (patternAt sh pl (z .second)) (patternAt sh pl (z .destination)) (getD (l .all) (z .first) noRunning) (getD (l .all) (z .second) noRunning) (getD (l .all) (z .destination) noRunning)
-    (getD (l .indices) (z .first) []) (getD (l .indices) (z .second) []) (getD (l .indices) (z .destination) []) (k .last .1 .1 .1 .1 .1 .1 .1 .1 .1 .1 .1 .0) (k .last .1 .1 .1 .1 .1 .1 .1 .1 .1 .1 .1 .1 .0) (k .last .1 .1 .1 .1 .1 .1 .1 .1 .1 .1 .1 .1 .1 .0) (k .last .1 .1 .1 .1 .1 .1 .1 .1 .1 .1 .1 .1 .1 .1 .0) (k .last .1 .1 .1 .1 .1 .1 .1 .1 .1 .1 .1 .1 .1 .1 .1 .0) (k .last .1 .1 .1 .1 .1 .1 .1 .1 .1 .1 .1 .1 .1 .1 .1 .1 .0) (k .result)
-    (getD (l .lanes) (z .first) []) (getD (l .lanes) (z .second) []) (getD (l .lanes) (z .destination) []) (l .memory) (checked (c .before .before .before .before .before .before .before .before)) (lanes-long sh pl (l .lanes) (l .indices) (l .all) (l .inv .1 .out) (a .args .vl) (l .inv .0 .good) (z .first) (n .first)) (lanes-long sh pl (l .lanes) (l .indices) (l .all) (l .inv .1 .out) (a .args .vl) (l .inv .0 .good) (z .second) (n .second)) (lanes-long sh pl (l .lanes) (l .indices) (l .all) (l .inv .1 .out) (a .args .vl) (l .inv .0 .good) (z .destination) (n .destination)) (z .action) _ (c .before .before .before .before .before .before .why .given .1) r r r in
+    let h = refused-so (a .args .vl) (eqb (calculation m .first) (calculation m .second)) (patternAt (shapes m) (places m) (calculation m .first)) (patternAt (shapes m) (places m) (calculation m .second)) (patternAt (shapes m) (places m) (calculation m .destination)) (getD (l .all) (calculation m .first) noRunning) (getD (l .all) (calculation m .second) noRunning) (getD (l .all) (calculation m .destination) noRunning)
+    (getD (l .indices) (calculation m .first) []) (getD (l .indices) (calculation m .second) []) (getD (l .indices) (calculation m .destination) []) (k .last .1 .1 .1 .1 .1 .1 .1 .1 .1 .1 .1 .0) (k .last .1 .1 .1 .1 .1 .1 .1 .1 .1 .1 .1 .1 .0) (k .last .1 .1 .1 .1 .1 .1 .1 .1 .1 .1 .1 .1 .1 .0) (k .last .1 .1 .1 .1 .1 .1 .1 .1 .1 .1 .1 .1 .1 .1 .0) (k .last .1 .1 .1 .1 .1 .1 .1 .1 .1 .1 .1 .1 .1 .1 .1 .0) (k .last .1 .1 .1 .1 .1 .1 .1 .1 .1 .1 .1 .1 .1 .1 .1 .1 .0) (k .result)
+    (getD (l .lanes) (calculation m .first) []) (getD (l .lanes) (calculation m .second) []) (getD (l .lanes) (calculation m .destination) []) (l .memory) (checked (c .before .before .before .before .before .before .before .before)) (sixty-four m (calculation m .first) (named m .first)) (sixty-four m (calculation m .second) (named m .second)) (sixty-four m (calculation m .destination) (named m .destination)) (calculation m .action) _ (c .before .before .before .before .before .before .why .given .1) r r r in
     let p = passing-no _ _ _ _ _ _ _ _ _ _ _ (l .inv .0) (m .loop2-test .taken) (omega (arith, o .inv .0, o .inv .1)) _ _ _ _ _
-    (calculated-at sh pl (l .lanes) (l .indices) (l .all) (l .inv .1 .out) (a .args .vl) (z .action) (l .memory) (z .first) (z .second) (z .destination) (n .first) (n .second) (n .destination) _ r r r (l .memory) h) _ (c .before .before .before .before .before .before .why .given .1) in
+    (calculated-at (shapes m) (places m) (l .lanes) (l .indices) (l .all) (l .inv .1 .out) (a .args .vl) (calculation m .action) (l .memory) (calculation m .first) (calculation m .second) (calculation m .destination) (named m .first) (named m .second) (named m .destination) _ r r r (l .memory) h) _ (c .before .before .before .before .before .before .why .given .1) in
     (λ t. record { world = record { machine = record { registers = c .rejoined .ensures t }; memory = l .memory }; report = record { passes = o .passes; calculations = l .calculations }; verdict = Refused (c .before .before .before .before .before .before .why .given .0 .0) (getD (a .args .body .steps) (l .k) noStep .place) })
     ∙ passes-no _ _ _ _ _ _ _ _ _ _ (o .inv .2) (m .before .before .loop-test .taken) _ _ _ _ (l .inv .0) _ _ (p .1)
 
@@ -232,20 +221,13 @@ carry-out-requires : tie.Need-carry-out-requires Inv-loop2 μ-loop2 Inv-loop μ-
 carry-out-requires c κs =
     let m = c .before .before .before .before .before .before .before .before .before .before .before .before .before .before .before .before .before .before .before .before .before .before .before .before .before .before .before .before .before .before .before .before in
     let l = m .before .loop2 in
-    let o = m .before .before .before .loop in
-    let y = m .before .before .before .before .before .before .lay-out in
-    let a = m .before .before .before .before .before .before .before .before .before .before .before .before .before in
-    let sh = y .last .1 .0 in
-    let pl = y .last .1 .1 .0 in
-    let z = getD (a .args .body .steps) (l .k) noStep .calculation in
-    let n = named m in
     let k = c .before .before .before .before .before .before .before .before .before .before .before .before .before .before .before .check-calculation in
     let g = checked (c .before .before .before .before .before .before .before .before .before .before .before .before .before .before .before) in
     let e = c .before .before .before .before .before .before .before .before .before .before .before .before .before .enum-told .given .1 in (
       g .within e,
       λ t.
           let h = g .again e t in
-          (h .0, (h .1, ap (λ i. getD (l .lanes) i []) (sym (eqb-true (z .first) (z .second) t)))),
+          (h .0, (h .1, ap (λ i. getD (l .lanes) i []) (sym (eqb-true (calculation m .first) (calculation m .second) t)))),
     )
 
 mul-all : tie.Need-mul-all Inv-loop2 μ-loop2 Inv-loop μ-loop
@@ -315,36 +297,23 @@ loop2-again : tie.Need-loop2-again Inv-loop2 μ-loop2 Inv-loop μ-loop
 loop2-again c =
     let m = c .before .before .before .before .before .before .before .before .before .before .before .before .before .before .before .before .before .before .before .before .before .before .before .before .before .before .before .before .before .before .before .before .before .before .before .before .before .before in
     let l = m .before .loop2 in
-    let o = m .before .before .before .loop in
-    let y = m .before .before .before .before .before .before .lay-out in
     let a = m .before .before .before .before .before .before .before .before .before .before .before .before .before in
-    let sh = y .last .1 .0 in
-    let pl = y .last .1 .1 .0 in
-    let z = getD (a .args .body .steps) (l .k) noStep .calculation in
-    let n = named m in
+    let o = m .before .before .before .loop in
     let k = c .before .before .before .before .before .before .before .before .before .before .before .before .before .before .before .before .before .before .before .before .before .check-calculation in
     let g = checked (c .before .before .before .before .before .before .before .before .before .before .before .before .before .before .before .before .before .before .before .before .before) in
     let e = c .before .before .before .before .before .before .before .before .before .before .before .before .before .before .before .before .before .before .before .enum-told .given .1 in
     let v = c .before .before .before .before .before .carry-out in
-    let fa = fit-at sh pl (l .lanes) (l .indices) (l .all) (l .inv .1 .out) (a .args .vl) (l .inv .0 .good) (z .first) (n .first) in
-    let h = calculated (a .args .vl) (eqb (z .first) (z .second)) (patternAt sh pl (z .first)) (patternAt sh pl (z .second)) (patternAt sh pl (z .destination)) (getD (l .all) (z .first) noRunning) (getD (l .all) (z .second) noRunning) (getD (l .all) (z .destination) noRunning)
-    (getD (l .indices) (z .first) []) (getD (l .indices) (z .second) []) (getD (l .indices) (z .destination) []) (k .last .1 .1 .1 .1 .1 .1 .1 .1 .1 .1 .1 .0) (k .last .1 .1 .1 .1 .1 .1 .1 .1 .1 .1 .1 .1 .0) (k .last .1 .1 .1 .1 .1 .1 .1 .1 .1 .1 .1 .1 .1 .0) (k .last .1 .1 .1 .1 .1 .1 .1 .1 .1 .1 .1 .1 .1 .1 .0) (k .last .1 .1 .1 .1 .1 .1 .1 .1 .1 .1 .1 .1 .1 .1 .1 .0) (k .last .1 .1 .1 .1 .1 .1 .1 .1 .1 .1 .1 .1 .1 .1 .1 .1 .0) (k .result)
-    (getD (l .lanes) (z .first) []) (getD (l .lanes) (z .second) []) (getD (l .lanes) (z .destination) []) (l .memory) g (lanes-long sh pl (l .lanes) (l .indices) (l .all) (l .inv .1 .out) (a .args .vl) (l .inv .0 .good) (z .first) (n .first)) (lanes-long sh pl (l .lanes) (l .indices) (l .all) (l .inv .1 .out) (a .args .vl) (l .inv .0 .good) (z .second) (n .second)) (lanes-long sh pl (l .lanes) (l .indices) (l .all) (l .inv .1 .out) (a .args .vl) (l .inv .0 .good) (z .destination) (n .destination)) (z .action) e fa (v .result) (v .last .1 .1 .1 .1 .1 .1 .1 .1 .1 .0) (v .last .1 .1 .1 .1 .1 .1 .1 .1 .1 .1 .0) (v .last .1 .1 .1 .1 .1 .1 .1 .1 .1 .1 .1 .0) (v .last .1 .1 .1 .1 .1 .1 .1 .1 .1 .1 .1 .1 .0) (v .ensures) in
+    let fa = fits m (calculation m .first) (named m .first) in
+    let h = round (a .args .vl) (eqb (calculation m .first) (calculation m .second)) (patternAt (shapes m) (places m) (calculation m .first)) (patternAt (shapes m) (places m) (calculation m .second)) (patternAt (shapes m) (places m) (calculation m .destination)) (getD (l .all) (calculation m .first) noRunning) (getD (l .all) (calculation m .second) noRunning) (getD (l .all) (calculation m .destination) noRunning)
+    (getD (l .indices) (calculation m .first) []) (getD (l .indices) (calculation m .second) []) (getD (l .indices) (calculation m .destination) []) (k .last .1 .1 .1 .1 .1 .1 .1 .1 .1 .1 .1 .0) (k .last .1 .1 .1 .1 .1 .1 .1 .1 .1 .1 .1 .1 .0) (k .last .1 .1 .1 .1 .1 .1 .1 .1 .1 .1 .1 .1 .1 .0) (k .last .1 .1 .1 .1 .1 .1 .1 .1 .1 .1 .1 .1 .1 .1 .0) (k .last .1 .1 .1 .1 .1 .1 .1 .1 .1 .1 .1 .1 .1 .1 .1 .0) (k .last .1 .1 .1 .1 .1 .1 .1 .1 .1 .1 .1 .1 .1 .1 .1 .1 .0) (k .result)
+    (getD (l .lanes) (calculation m .first) []) (getD (l .lanes) (calculation m .second) []) (getD (l .lanes) (calculation m .destination) []) (l .memory) g (sixty-four m (calculation m .first) (named m .first)) (sixty-four m (calculation m .second) (named m .second)) (sixty-four m (calculation m .destination) (named m .destination)) (calculation m .action) e fa (v .result) (v .last .1 .1 .1 .1 .1 .1 .1 .1 .1 .0) (v .last .1 .1 .1 .1 .1 .1 .1 .1 .1 .1 .0) (v .last .1 .1 .1 .1 .1 .1 .1 .1 .1 .1 .1 .0) (v .last .1 .1 .1 .1 .1 .1 .1 .1 .1 .1 .1 .1 .0) (v .ensures) in
     let q = passing-on _ _ _ _ _ _ _ _ _ _ _ (l .inv .0) (m .loop2-test .taken) (omega (arith, o .inv .0, o .inv .1)) _ _ _ _ _
-    (calculated-at sh pl (l .lanes) (l .indices) (l .all) (l .inv .1 .out) (a .args .vl) (z .action) (l .memory) (z .first) (z .second) (z .destination) (n .first) (n .second) (n .destination) _ _ _ _ (v .last .1 .1 .1 .1 .1 .1 .1 .1 .1 .1 .1 .1 .0) h) e in
-    let mf = remember-first (a .args .vl) (eqb (z .first) (z .second)) (patternAt sh pl (z .first)) (patternAt sh pl (z .second)) (patternAt sh pl (z .destination)) (getD (l .all) (z .first) noRunning) (getD (l .all) (z .second) noRunning) (getD (l .all) (z .destination) noRunning)
-    (getD (l .indices) (z .first) []) (getD (l .indices) (z .second) []) (getD (l .indices) (z .destination) []) (k .last .1 .1 .1 .1 .1 .1 .1 .1 .1 .1 .1 .0) (k .last .1 .1 .1 .1 .1 .1 .1 .1 .1 .1 .1 .1 .0) (k .last .1 .1 .1 .1 .1 .1 .1 .1 .1 .1 .1 .1 .1 .0) (k .last .1 .1 .1 .1 .1 .1 .1 .1 .1 .1 .1 .1 .1 .1 .0) (k .last .1 .1 .1 .1 .1 .1 .1 .1 .1 .1 .1 .1 .1 .1 .1 .0) (k .last .1 .1 .1 .1 .1 .1 .1 .1 .1 .1 .1 .1 .1 .1 .1 .1 .0) (k .result)
-    (getD (l .lanes) (z .first) []) (getD (l .lanes) (z .second) []) (getD (l .lanes) (z .destination) []) (l .memory) g (lanes-long sh pl (l .lanes) (l .indices) (l .all) (l .inv .1 .out) (a .args .vl) (l .inv .0 .good) (z .first) (n .first)) (lanes-long sh pl (l .lanes) (l .indices) (l .all) (l .inv .1 .out) (a .args .vl) (l .inv .0 .good) (z .second) (n .second)) (lanes-long sh pl (l .lanes) (l .indices) (l .all) (l .inv .1 .out) (a .args .vl) (l .inv .0 .good) (z .destination) (n .destination)) (z .action) e fa (v .result) (v .last .1 .1 .1 .1 .1 .1 .1 .1 .1 .0) (v .last .1 .1 .1 .1 .1 .1 .1 .1 .1 .1 .0) (v .last .1 .1 .1 .1 .1 .1 .1 .1 .1 .1 .1 .0) (v .last .1 .1 .1 .1 .1 .1 .1 .1 .1 .1 .1 .1 .0) (v .ensures) in
-    let ms = remember-second (a .args .vl) (eqb (z .first) (z .second)) (patternAt sh pl (z .first)) (patternAt sh pl (z .second)) (patternAt sh pl (z .destination)) (getD (l .all) (z .first) noRunning) (getD (l .all) (z .second) noRunning) (getD (l .all) (z .destination) noRunning)
-    (getD (l .indices) (z .first) []) (getD (l .indices) (z .second) []) (getD (l .indices) (z .destination) []) (k .last .1 .1 .1 .1 .1 .1 .1 .1 .1 .1 .1 .0) (k .last .1 .1 .1 .1 .1 .1 .1 .1 .1 .1 .1 .1 .0) (k .last .1 .1 .1 .1 .1 .1 .1 .1 .1 .1 .1 .1 .1 .0) (k .last .1 .1 .1 .1 .1 .1 .1 .1 .1 .1 .1 .1 .1 .1 .0) (k .last .1 .1 .1 .1 .1 .1 .1 .1 .1 .1 .1 .1 .1 .1 .1 .0) (k .last .1 .1 .1 .1 .1 .1 .1 .1 .1 .1 .1 .1 .1 .1 .1 .1 .0) (k .result)
-    (getD (l .lanes) (z .first) []) (getD (l .lanes) (z .second) []) (getD (l .lanes) (z .destination) []) (l .memory) g (lanes-long sh pl (l .lanes) (l .indices) (l .all) (l .inv .1 .out) (a .args .vl) (l .inv .0 .good) (z .first) (n .first)) (lanes-long sh pl (l .lanes) (l .indices) (l .all) (l .inv .1 .out) (a .args .vl) (l .inv .0 .good) (z .second) (n .second)) (lanes-long sh pl (l .lanes) (l .indices) (l .all) (l .inv .1 .out) (a .args .vl) (l .inv .0 .good) (z .destination) (n .destination)) (z .action) e fa (v .result) (v .last .1 .1 .1 .1 .1 .1 .1 .1 .1 .0) (v .last .1 .1 .1 .1 .1 .1 .1 .1 .1 .1 .0) (v .last .1 .1 .1 .1 .1 .1 .1 .1 .1 .1 .1 .0) (v .last .1 .1 .1 .1 .1 .1 .1 .1 .1 .1 .1 .1 .0) (v .ensures) in
-    let mw = remember-third (a .args .vl) (eqb (z .first) (z .second)) (patternAt sh pl (z .first)) (patternAt sh pl (z .second)) (patternAt sh pl (z .destination)) (getD (l .all) (z .first) noRunning) (getD (l .all) (z .second) noRunning) (getD (l .all) (z .destination) noRunning)
-    (getD (l .indices) (z .first) []) (getD (l .indices) (z .second) []) (getD (l .indices) (z .destination) []) (k .last .1 .1 .1 .1 .1 .1 .1 .1 .1 .1 .1 .0) (k .last .1 .1 .1 .1 .1 .1 .1 .1 .1 .1 .1 .1 .0) (k .last .1 .1 .1 .1 .1 .1 .1 .1 .1 .1 .1 .1 .1 .0) (k .last .1 .1 .1 .1 .1 .1 .1 .1 .1 .1 .1 .1 .1 .1 .0) (k .last .1 .1 .1 .1 .1 .1 .1 .1 .1 .1 .1 .1 .1 .1 .1 .0) (k .last .1 .1 .1 .1 .1 .1 .1 .1 .1 .1 .1 .1 .1 .1 .1 .1 .0) (k .result)
-    (getD (l .lanes) (z .first) []) (getD (l .lanes) (z .second) []) (getD (l .lanes) (z .destination) []) (l .memory) g (lanes-long sh pl (l .lanes) (l .indices) (l .all) (l .inv .1 .out) (a .args .vl) (l .inv .0 .good) (z .first) (n .first)) (lanes-long sh pl (l .lanes) (l .indices) (l .all) (l .inv .1 .out) (a .args .vl) (l .inv .0 .good) (z .second) (n .second)) (lanes-long sh pl (l .lanes) (l .indices) (l .all) (l .inv .1 .out) (a .args .vl) (l .inv .0 .good) (z .destination) (n .destination)) (z .action) e fa (v .result) (v .last .1 .1 .1 .1 .1 .1 .1 .1 .1 .0) (v .last .1 .1 .1 .1 .1 .1 .1 .1 .1 .1 .0) (v .last .1 .1 .1 .1 .1 .1 .1 .1 .1 .1 .1 .0) (v .last .1 .1 .1 .1 .1 .1 .1 .1 .1 .1 .1 .1 .0) (v .ensures) in (
-      subst (λ rs. Passing (a .args .vl) (a .args .body .count) (a .args .body .steps) (o .passes) (registersIn sh pl (o .lanes) (o .indices) (o .all)) (o .memory) (o .calculations) rs (v .last .1 .1 .1 .1 .1 .1 .1 .1 .1 .1 .1 .1 .0) (l .calculations + 1) (l .k + 1))
-          (sym (views-on sh pl (l .lanes) (l .indices) (l .all) (l .inv .1 .out) (z .first) (z .second) (z .destination) (n .first) (n .second) (n .destination) (v .last .1 .1 .1 .1 .1 .1 .1 .1 .1 .0) (v .last .1 .1 .1 .1 .1 .1 .1 .1 .1 .1 .0) (v .last .1 .1 .1 .1 .1 .1 .1 .1 .1 .1 .1 .0) (k .last .1 .1 .1 .1 .1 .1 .1 .1 .1 .1 .1 .0) (k .last .1 .1 .1 .1 .1 .1 .1 .1 .1 .1 .1 .1 .0) (k .last .1 .1 .1 .1 .1 .1 .1 .1 .1 .1 .1 .1 .1 .0) (v .result .first) (v .result .second) (v .result .destination) mf ms mw)) q,
+    (calculated-at (shapes m) (places m) (l .lanes) (l .indices) (l .all) (l .inv .1 .out) (a .args .vl) (calculation m .action) (l .memory) (calculation m .first) (calculation m .second) (calculation m .destination) (named m .first) (named m .second) (named m .destination) _ _ _ _ (v .last .1 .1 .1 .1 .1 .1 .1 .1 .1 .1 .1 .1 .0) (h .0)) e in
+    let w = three-on (shapes m) (places m) (l .lanes) (l .indices) (l .all) (l .inv .1 .out) (calculation m .first) (calculation m .second) (calculation m .destination) (named m .first) (named m .second) (named m .destination) (v .last .1 .1 .1 .1 .1 .1 .1 .1 .1 .0) (v .last .1 .1 .1 .1 .1 .1 .1 .1 .1 .1 .0) (v .last .1 .1 .1 .1 .1 .1 .1 .1 .1 .1 .1 .0) (k .last .1 .1 .1 .1 .1 .1 .1 .1 .1 .1 .1 .0) (k .last .1 .1 .1 .1 .1 .1 .1 .1 .1 .1 .1 .1 .0) (k .last .1 .1 .1 .1 .1 .1 .1 .1 .1 .1 .1 .1 .1 .0) (v .result .first) (v .result .second) (v .result .destination) (h .1 .0) (h .1 .1 .0) (h .1 .1 .1) in (
+      subst (λ rs. Passing (a .args .vl) (a .args .body .count) (a .args .body .steps) (o .passes) (registersIn (shapes m) (places m) (o .lanes) (o .indices) (o .all)) (o .memory) (o .calculations) rs (v .last .1 .1 .1 .1 .1 .1 .1 .1 .1 .1 .1 .1 .0) (l .calculations + 1) (l .k + 1))
+          (sym (w .1)) q,
       record {
-        out = laid-on sh pl (l .lanes) (l .indices) (l .all) (l .inv .1 .out) (z .first) (z .second) (z .destination) (n .first) (n .second) (n .destination) (v .last .1 .1 .1 .1 .1 .1 .1 .1 .1 .0) (v .last .1 .1 .1 .1 .1 .1 .1 .1 .1 .1 .0) (v .last .1 .1 .1 .1 .1 .1 .1 .1 .1 .1 .1 .0) (k .last .1 .1 .1 .1 .1 .1 .1 .1 .1 .1 .1 .0) (k .last .1 .1 .1 .1 .1 .1 .1 .1 .1 .1 .1 .1 .0) (k .last .1 .1 .1 .1 .1 .1 .1 .1 .1 .1 .1 .1 .1 .0) (v .result .first) (v .result .second) (v .result .destination) mf ms mw;
+        out = w .0;
         firsts = k .ensures .1 .0;
         seconds = k .ensures .1 .1 .0;
         thirds = k .ensures .1 .1 .1;
