@@ -3,7 +3,7 @@
 --   fetched-narrow, from-narrow, wise-narrow   lanes are numbers of their width
 --   read-back, result-back        lanes put into a register's bytes are read back
 --   chunk-same                    the bytes of a source after it was read
---   taken-live, taken-plain, taken-rowed       a register taken as an operand
+--   taken-live, taken-plain       a register taken as an operand
 --   source-shown, target-shown    a source and a destination after a calculation
 --   shown                         all three, and the memory
 use Prim.Native.Nat.{ℕ, zero, suc, _+_, _*_, _^_, _≤_, _<_}
@@ -23,14 +23,14 @@ use Rattle.engine.specs.Addresses.{noBytes, address}
 use Rattle.engine.specs.Memory.{valueAt, lanesFrom, packed, holding}
 use Rattle.engine.specs.Registers.{isOpen}
 use Rattle.engine.specs.Places.{placeAt}
-use Rattle.engine.specs.Stretches.{fetchedAt}
-use Rattle.engine.specs.Runnings.{viewOf, Remembers, filledWith, Near, Looks}
+use Rattle.engine.specs.Stretches.{fetchedAt, Parts}
+use Rattle.engine.specs.Runnings.{viewOf, Remembers, filledWith, behind, afterwards, listedIn, Looks}
 use Rattle.engine.specs.ByteLaws.{Bytewise, value-small}
 use Rattle.engine.specs.LaneLaws.{lane-small}
 use Rattle.engine.specs.PackedLaws.{lanes-packed}
 use Rattle.engine.specs.EffectLaws.{length-lanes, lanewise-length}
-use Rattle.engine.specs.Operands.{Operates, operandOf, Taken, lanesOf}
-use Rattle.engine.specs.Calculations.{listedIn, lanesIn}
+use Rattle.engine.specs.Operands.{operandOf, Taken, lanesOf}
+use Rattle.engine.specs.Calculations.{lanesIn}
 use Rattle.engine.specs.declared.stream.Pattern.{Pattern}
 use Rattle.engine.specs.declared.running.Running.{Running}
 use Rattle.engine.specs.declared.ahead.Ahead.{Ahead}
@@ -78,7 +78,7 @@ pub chunk-same : (live : Bool) (w : ℕ) (f g : List ℕ) (lanes : List ℕ) →
 chunk-same true w f g lanes = refl
 chunk-same false w f g lanes = refl
 
-module _ (w n : ℕ) (memory : List ℕ) (x : Ahead) (xs : List ℤ) (lanes lanes' : List ℕ) (c : x .count ≡ n) (room : n * w ≤ 64) (long : x .live ≡ true → length (listedIn x xs) ≡ x .count)
+module _ (w n : ℕ) (memory : List ℕ) (x : Ahead) (xs : List (List ℤ)) (lanes lanes' : List ℕ) (c : x .count ≡ n) (room : n * w ≤ 64) (long : x .live ≡ true → length (listedIn x xs) ≡ x .count)
     (b : Bytewise memory) (e : lanes' ≡ cond (x .live) (packed w (fetchedAt memory w (listedIn x xs))) lanes) where
   -- the lanes of a source are read back from its bytes
   pub read-back : lanesFrom lanes' w 0 n ≡ lanesIn w memory x xs lanes
@@ -101,39 +101,27 @@ result-back action w n first second room p q =
     ∙ lanes-packed w xs (wise-narrow action w (lanesFrom first w 0 n) (lanesFrom second w 0 n) (from-narrow first w 0 n p) (from-narrow second w 0 n q)) (omega (arith, ap (λ j. j * w) l))
 
 -- an open stream taken as an operand
-pub taken-live : (p : Pattern) (before row : List ℕ) (q : Running) (most plain : ℕ) (xs : List ℤ) (o : Ahead) → isOpen (q .state) ≡ true → o .live ≡ true
-    → Near (o .start) (o .step) → Looks p before q most (o .count) (listedIn o xs) row (o .after) → length xs ≡ 64 → Taken p before q most plain row xs o
+pub taken-live : (p : Pattern) (before row : List ℕ) (q : Running) (most plain : ℕ) (xs : List (List ℤ)) (o : Ahead) → isOpen (q .state) ≡ true → o .live ≡ true
+    → Parts (o .parts) xs → Looks p before q most (o .count) (listedIn o xs) row (behind o q) → length xs ≡ 64 → Taken p before q most plain row xs o
 taken-live p before row q most plain xs o e l n s long = record {
-  operates = λ lanes. record { told = l ∙ sym e; counted = rw e (s .counted); addressed = λ t. s .addressed; after = rw e (s .moved lanes) };
-  near = n;
-  remembers = s .remembers;
+  operates = λ lanes. record { told = l ∙ sym e; counted = rw e (s .counted); addressed = λ t. s .addressed; after = rw (e, l) (s .moved lanes) };
+  parts = n;
+  remembers = rw l (s .remembers);
   long = long;
 }
 
 -- any other register
-pub taken-plain : (p : Pattern) (row : List ℕ) (q : Running) (most plain : ℕ) (xs : List ℤ) → isOpen (q .state) ≡ false → Remembers p row q → length xs ≡ 64
-    → Taken p row q most plain row xs (record { live = false; rowed = true; count = plain; start = noBytes; step = noBytes; after = q })
+pub taken-plain : (p : Pattern) (row : List ℕ) (q : Running) (most plain : ℕ) (xs : List (List ℤ)) → isOpen (q .state) ≡ false → Remembers p row q → length xs ≡ 64
+    → Taken p row q most plain row xs (record { live = false; found = false; count = plain; parts = 0; height = 0; index = 0; address = noBytes; size = 0; step = noBytes })
 taken-plain p row q most plain xs e m long = record {
   operates = λ lanes. record { told = sym e; counted = rw e; addressed = λ t. never (sym e ∙ t); after = rw e };
-  near = (omega arith, omega arith);
+  parts = (omega arith, λ k h. absurd (omega arith));
   remembers = m;
   long = long;
 }
 
--- of a row the array of addresses does not matter
-pub taken-rowed : (p : Pattern) (before row : List ℕ) (q : Running) (most plain : ℕ) (xs ys : List ℤ) (o : Ahead) → o .rowed ≡ true → length ys ≡ 64
-    → Taken p before q most plain row xs o → Taken p before q most plain row ys o
-taken-rowed p before row q most plain xs ys o e long t =
-    let k : listedIn o xs ≡ listedIn o ys = rw e in
-    record {
-      operates = λ lanes. subst (λ l. Operates (viewOf p lanes before q) most plain (record { live = o .live; count = o .count; addresses = l; after = viewOf p lanes row (o .after) })) k (t .operates lanes);
-      near = t .near;
-      remembers = t .remembers;
-      long = long;
-    }
-
 -- how many addresses an operand has
-pub taken-long : (p : Pattern) (before row : List ℕ) (q : Running) (most plain : ℕ) (xs : List ℤ) (o : Ahead) → Taken p before q most plain row xs o
+pub taken-long : (p : Pattern) (before row : List ℕ) (q : Running) (most plain : ℕ) (xs : List (List ℤ)) (o : Ahead) → Taken p before q most plain row xs o
     → o .live ≡ true → length (listedIn o xs) ≡ o .count
 taken-long p before row q most plain xs o t e =
     let h = t .operates [] in
@@ -141,42 +129,42 @@ taken-long p before row q most plain xs o t e =
     ap length (h .addressed f) ∙ length-map (chunk (p .shape) most (q .moved)) (address p (q .width)) ∙ sym (rw f at (h .counted))
 
 -- a source after a calculation
-module _ (p : Pattern) (before row : List ℕ) (q : Running) (most plain : ℕ) (xs : List ℤ) (o : Ahead) (t : Taken p before q most plain row xs o) (memory lanes : List ℕ) where
+module _ (p : Pattern) (before row : List ℕ) (q : Running) (most plain : ℕ) (xs : List (List ℤ)) (o : Ahead) (t : Taken p before q most plain row xs o) (memory lanes : List ℕ) where
   -- the lanes that it gives
-  pub source-lanes : plain ≡ q .valid → lanesIn (q .width) memory o xs lanes ≡ lanesOf (viewOf p lanes before q) (operandOf p lanes row xs o) memory
+  pub source-lanes : plain ≡ q .valid → lanesIn (q .width) memory o xs lanes ≡ lanesOf (viewOf p lanes before q) (operandOf p lanes row xs q o) memory
   source-lanes e = go (o .live) refl
     where
-      go : (b : Bool) → o .live ≡ b → lanesIn (q .width) memory o xs lanes ≡ lanesOf (viewOf p lanes before q) (operandOf p lanes row xs o) memory
+      go : (b : Bool) → o .live ≡ b → lanesIn (q .width) memory o xs lanes ≡ lanesOf (viewOf p lanes before q) (operandOf p lanes row xs q o) memory
       go true f = rw f
       go false f =
           let g : isOpen (q .state) ≡ false = sym (t .operates lanes .told) ∙ f in
           rw f (ap (λ n. lanesFrom lanes (q .width) 0 n) ((rw g at (t .operates lanes .counted)) ∙ e))
 
   -- the register
-  pub source-shown : plain ≡ q .valid → (f : Running) (lanes' : List ℕ) → f ≡ cond (o .live) (filledWith (q .width) (o .count) (o .after)) (o .after)
+  pub source-shown : plain ≡ q .valid → (f : Running) (lanes' : List ℕ) → f ≡ cond (o .live) (filledWith (q .width) (o .count) (afterwards o q)) (afterwards o q)
       → lanes' ≡ cond (o .live) (packed (q .width) (lanesIn (q .width) memory o xs lanes)) lanes
-      → viewOf p lanes' row f ≡ cond (o .live) (holding (q .width) (lanesOf (viewOf p lanes before q) (operandOf p lanes row xs o) memory) (viewOf p lanes row (o .after))) (viewOf p lanes before q)
+      → viewOf p lanes' row f ≡ cond (o .live) (holding (q .width) (lanesOf (viewOf p lanes before q) (operandOf p lanes row xs q o) memory) (viewOf p lanes row (afterwards o q))) (viewOf p lanes before q)
   source-shown e f lanes' g h = go (o .live) refl
     where
-      go : (b : Bool) → o .live ≡ b → viewOf p lanes' row f ≡ cond (o .live) (holding (q .width) (lanesOf (viewOf p lanes before q) (operandOf p lanes row xs o) memory) (viewOf p lanes row (o .after))) (viewOf p lanes before q)
+      go : (b : Bool) → o .live ≡ b → viewOf p lanes' row f ≡ cond (o .live) (holding (q .width) (lanesOf (viewOf p lanes before q) (operandOf p lanes row xs q o) memory) (viewOf p lanes row (afterwards o q))) (viewOf p lanes before q)
       go true k =
           let n : o .count ≡ length (fetchedAt memory (q .width) (listedIn o xs)) = sym (length-map (listedIn o xs) (λ a. valueAt memory (natural a) (q .width)) ∙ taken-long p before row q most plain xs o t k) in
-          rw k (ap₂ (λ l r. viewOf p l row r) (rw k at h) (rw k at g) ∙ filled-shown p lanes row (o .after) (q .width) (o .count) (fetchedAt memory (q .width) (listedIn o xs)) n)
+          rw k (ap₂ (λ l r. viewOf p l row r) (rw k at h) (rw k at g) ∙ filled-shown p lanes row (behind o q) (q .width) (o .count) (fetchedAt memory (q .width) (listedIn o xs)) n)
       go false k =
           let c : isOpen (q .state) ≡ false = sym (t .operates lanes .told) ∙ k in
-          rw k (ap₂ (λ l r. viewOf p l row r) (rw k at h) (rw k at g) ∙ (rw c at (t .operates lanes .after)))
+          rw k (ap₂ (λ l r. viewOf p l row r) (rw k at h) (rw k at g) ∙ (rw (c, k) at (t .operates lanes .after)))
 
 -- a destination after a calculation
-module _ (p : Pattern) (before row : List ℕ) (q : Running) (most plain : ℕ) (xs : List ℤ) (o : Ahead) (t : Taken p before q most plain row xs o) (lanes : List ℕ) where
-  pub target-shown : (width n : ℕ) (out : List ℕ) → n ≡ length out → (f : Running) (lanes' : List ℕ) → f ≡ cond (o .live) (o .after) (filledWith width n (o .after))
-      → lanes' ≡ cond (o .live) lanes (packed width out) → viewOf p lanes' row f ≡ cond (o .live) (viewOf p lanes row (o .after)) (holding width out (viewOf p lanes before q))
+module _ (p : Pattern) (before row : List ℕ) (q : Running) (most plain : ℕ) (xs : List (List ℤ)) (o : Ahead) (t : Taken p before q most plain row xs o) (lanes : List ℕ) where
+  pub target-shown : (width n : ℕ) (out : List ℕ) → n ≡ length out → (f : Running) (lanes' : List ℕ) → f ≡ cond (o .live) (afterwards o q) (filledWith width n (afterwards o q))
+      → lanes' ≡ cond (o .live) lanes (packed width out) → viewOf p lanes' row f ≡ cond (o .live) (viewOf p lanes row (afterwards o q)) (holding width out (viewOf p lanes before q))
   target-shown width n out e f lanes' g h = go (o .live) refl
     where
-      go : (b : Bool) → o .live ≡ b → viewOf p lanes' row f ≡ cond (o .live) (viewOf p lanes row (o .after)) (holding width out (viewOf p lanes before q))
+      go : (b : Bool) → o .live ≡ b → viewOf p lanes' row f ≡ cond (o .live) (viewOf p lanes row (afterwards o q)) (holding width out (viewOf p lanes before q))
       go true k = rw k (ap₂ (λ l r. viewOf p l row r) (rw k at h) (rw k at g))
       go false k =
           let c : isOpen (q .state) ≡ false = sym (t .operates lanes .told) ∙ k in
-          rw k (ap₂ (λ l r. viewOf p l row r) (rw k at h) (rw k at g) ∙ filled-shown p lanes row (o .after) width n out e ∙ ap (holding width out) (rw c at (t .operates lanes .after)))
+          rw k (ap₂ (λ l r. viewOf p l row r) (rw k at h) (rw k at g) ∙ filled-shown p lanes row q width n out e ∙ ap (holding width out) (rw (c, k) at (t .operates lanes .after)))
 
 -- what is remembered does not depend on the content
 pub remembers-filled : (p : Pattern) (row : List ℕ) (live : Bool) (width n : ℕ) (q f : Running) → q .width ≡ width → Remembers p row q → f ≡ cond live (filledWith width n q) q → Remembers p row f

@@ -1,28 +1,34 @@
 -- What the checks of a calculation on running registers found, from the checks on the registers that they stand for.
 --
 --   ready              an open stream is ready for its next chunk
+--   moved-room         elements moved are few
 --   turned-down        a refused calculation
 --   by-operands        why, once states and widths fit
+--   second-beyond      the second source that is the first once more
 --   stopped, cleared   refused by an operand, or not at all
-use Prim.Native.Nat.{ℕ, _/_, _≤_}
+use Prim.Native.Nat.{ℕ, _+_, _-_, _/_, _≤_, _<_, _^_}
 use mathlib.Core.Path.{_≡_, refl, sym, _∙_, ap, subst}
 use mathlib.Core.List.{List, []}
-use mathlib.Core.Bool.{Bool, true, false, not, _&&_, _||_}
+use mathlib.Core.Bool.{Bool, true, false, not, cond, _&&_, _||_}
 use native.Mathlib.Omega.{arith}
-use lib.ListN.{length, replicate}
+use lib.ListN.{length, take, drop, replicate, length-take, length-drop}
 use lib.Dec.{eqb, ltb}
 use lib.IntN.{ℤ}
 use borrow.Author.Tests.{eqb-true, ltb-false, not-false}
 use Rattle.codec.specs.TestLaws.{or-false, and-false}
 use Rattle.codec.specs.declared.refusal.Refusal.{Refusal}
 use Rattle.engine.specs.Checks.{firstOf}
+use Rattle.engine.specs.Loops.{elements}
+use Rattle.engine.specs.Chunks.{chunk}
+use Rattle.engine.specs.ChunkLaws.{covered, chunk-elements}
+use Rattle.engine.specs.CountLaws.{few}
 use Rattle.engine.specs.Registers.{isOpen}
 use Rattle.engine.specs.Stretches.{allWithin}
 use Rattle.engine.specs.Places.{Ready}
 use Rattle.engine.specs.LaneLaws.{width-range}
-use Rattle.engine.specs.Runnings.{viewOf, bare}
+use Rattle.engine.specs.Runnings.{viewOf, bare, listedIn}
 use Rattle.engine.specs.Operands.{operandOf, Taken, whyOn}
-use Rattle.engine.specs.Calculations.{listedIn, Fit, Cleared}
+use Rattle.engine.specs.Calculations.{Fit, Cleared}
 use Rattle.engine.proofs.Ordered.{states, after, widths, flags, fits, one-width, store-width, target-few}
 use Rattle.engine.proofs.Carrying.{taken-long}
 use Rattle.engine.specs.declared.check.Why.{Why}
@@ -54,7 +60,33 @@ ready vl p row q f e =
       height = o .0 .height;
     }
 
-module _ (vl len : ℕ) (same : Bool) (pa pb pd : Pattern) (a b d : Running) (va vb vd va' vb' vd' : List ℕ) (xs ys zs : List ℤ) where
+-- 13: the sources' lanes differ in number, or exceed the store's chunk
+abbrev pub lanesDiffer : Ahead → Ahead → Ahead → Bool
+lanesDiffer x y z = not (eqb (x .count) (y .count)) || z .live && ltb (z .count) (x .count)
+
+-- 14: an element that an open stream would move lies outside memory
+abbrev pub beyond : ℕ → Ahead → ℕ → List (List ℤ) → Bool
+beyond len o width l = o .live && not (allWithin len width (listedIn o l))
+
+-- elements moved are few
+pub moved-room : (vl : ℕ) (p : Pattern) (before : List ℕ) (q : Running) → Fit vl p before q → (most plain : ℕ) (row : List ℕ) (xs : List (List ℤ)) (o : Ahead) → Taken p before q most plain row xs o
+    → o .live ≡ true → q .moved + o .count < 2 ^ 32
+moved-room vl p before q f most plain row xs o t e =
+    let s = p .shape in
+    let g : isOpen (q .state) ≡ true = sym (t .operates [] .told) ∙ e in
+    let y = ready vl p before q f g in
+    let n = length (chunk s most (q .moved)) in
+    let c : o .count ≡ n = rw g at (t .operates [] .counted) in
+    let l : length (take n (drop (q .moved) (elements s))) ≤ length (elements s) - q .moved = simp (length-take, length-drop) (omega arith) in
+    omega (arith, c, l, ap length (chunk-elements s most (q .moved) (covered s (s .coupling) (y .accepted .covered))), y .some, few s, y .accepted .few)
+
+-- the second source, with the first's parts if it is the first once more: it lies outside exactly if it is another and does
+pub second-beyond : (len width : ℕ) (same : Bool) (o : Ahead) (xs ys : List (List ℤ)) (q : Bool) → q ≡ (not same && beyond len o width ys)
+    → (same ≡ true → beyond len o width xs ≡ false) → beyond len o width (cond same xs ys) ≡ q
+second-beyond len width true o xs ys q e f = f refl ∙ sym e
+second-beyond len width false o xs ys q e f = sym e
+
+module _ (vl len : ℕ) (same : Bool) (pa pb pd : Pattern) (a b d : Running) (va vb vd va' vb' vd' : List ℕ) (xs ys zs : List (List ℤ)) where
   -- a refused calculation
   pub turned-down : (r : Checked) (x : Refusal) → r .why ≡ Because x
       → ((la lb ld memory : List ℕ) → length la ≡ 64 → length lb ≡ 64 → length ld ≡ 64 → length memory ≡ len → whyOn vl memory (viewOf pa la va a) (viewOf pb lb vb b) (viewOf pd ld vd d) ≡ Because x)
@@ -72,42 +104,35 @@ module _ (vl len : ℕ) (same : Bool) (pa pb pd : Pattern) (a b d : Running) (va
   module _ (vl64 : vl ≤ 64) (fa : Fit vl pa va a) (fb : Fit vl pb vb b) (fd : Fit vl pd vd d) (x y z : Ahead)
       (tx : Taken pa va a (vl / a .width) (a .valid) va' xs x) (ty : Taken pb vb b (vl / b .width) (b .valid) vb' ys y) (tz : Taken pd vd d (x .count) (x .count) vd' zs z)
       (e : firstOf (states (bare a) (bare b) (bare d)) ≡ Nothing) (w : widths (bare a) (bare b) (bare d) ≡ false) where
-    -- 13, and 14 of each register
-    abbrev pub differs : Bool
-    differs = not (eqb (x .count) (y .count)) || z .live && ltb (z .count) (x .count)
-
-    abbrev pub beyond : Ahead → ℕ → List ℤ → Bool
-    beyond o width l = o .live && not (allWithin len width (listedIn o l))
-
     pub by-operands : (la lb ld memory : List ℕ) → length la ≡ 64 → length lb ≡ 64 → length ld ≡ 64 → length memory ≡ len
         → whyOn vl memory (viewOf pa la va a) (viewOf pb lb vb b) (viewOf pd ld vd d)
-        ≡ firstOf (after false differs (beyond x (a .width) xs) (beyond y (b .width) ys) (beyond z (d .width) zs))
+        ≡ firstOf (after false (lanesDiffer x y z) (beyond len x (a .width) xs) (beyond len y (b .width) ys) (beyond len z (d .width) zs))
     by-operands la lb ld memory p q s t =
         flags vl memory (viewOf pa la va a) (viewOf pb lb vb b) (viewOf pd ld vd d) (fa .good la p) (fb .good lb q)
-        (operandOf pa la va' xs x) (operandOf pb lb vb' ys y) (operandOf pd ld vd' zs z) (tx .operates la) (ty .operates lb) (tz .operates ld) e w
-        ∙ ap (λ n. firstOf (after false differs (x .live && not (allWithin n (a .width) (listedIn x xs))) (y .live && not (allWithin n (b .width) (listedIn y ys))) (z .live && not (allWithin n (d .width) (listedIn z zs))))) t
+        (operandOf pa la va' xs a x) (operandOf pb lb vb' ys b y) (operandOf pd ld vd' zs d z) (tx .operates la) (ty .operates lb) (tz .operates ld) e w
+        ∙ ap (λ n. firstOf (after false (lanesDiffer x y z) (beyond n x (a .width) xs) (beyond n y (b .width) ys) (beyond n z (d .width) zs))) t
 
     -- an operand refuses
     pub stopped : (r : Checked) (v : Refusal) → r .why ≡ Because v
-        → ((u : Why) → u ≡ firstOf (after false differs (beyond x (a .width) xs) (beyond y (b .width) ys) (beyond z (d .width) zs)) → u ≡ Because v)
+        → ((u : Why) → u ≡ firstOf (after false (lanesDiffer x y z) (beyond len x (a .width) xs) (beyond len y (b .width) ys) (beyond len z (d .width) zs)) → u ≡ Because v)
         → Cleared vl len same pa pb pd a b d va vb vd va' vb' vd' xs ys zs r
     stopped r v f g = turned-down r v f (λ la lb ld memory p q s t. g _ (by-operands la lb ld memory p q s t))
 
-    module _ (l : differs ≡ false) (ox : beyond x (a .width) xs ≡ false) (oy : beyond y (b .width) ys ≡ false) (oz : beyond z (d .width) zs ≡ false) where
+    module _ (l : lanesDiffer x y z ≡ false) (ox : beyond len x (a .width) xs ≡ false) (oy : beyond len y (b .width) ys ≡ false) (oz : beyond len z (d .width) zs ≡ false) where
       abbrev zeros : List ℕ
       zeros = replicate 64 0
 
-      nothing : firstOf (after false differs (beyond x (a .width) xs) (beyond y (b .width) ys) (beyond z (d .width) zs)) ≡ Nothing
+      nothing : firstOf (after false (lanesDiffer x y z) (beyond len x (a .width) xs) (beyond len y (b .width) ys) (beyond len z (d .width) zs)) ≡ Nothing
       unfolding firstOf
       nothing = rw (l, ox, oy, oz)
 
       one : b .width ≡ a .width
-      one = one-width vl [] (viewOf pa zeros va a) (viewOf pb zeros vb b) (viewOf pd zeros vd d) (fa .good zeros refl) (fb .good zeros refl) (operandOf pa zeros va' xs x) (operandOf pb zeros vb' ys y) (operandOf pd zeros vd' zs z) (tx .operates zeros) (ty .operates zeros) (tz .operates zeros) e w
+      one = one-width vl [] (viewOf pa zeros va a) (viewOf pb zeros vb b) (viewOf pd zeros vd d) (fa .good zeros refl) (fb .good zeros refl) (operandOf pa zeros va' xs a x) (operandOf pb zeros vb' ys b y) (operandOf pd zeros vd' zs d z) (tx .operates zeros) (ty .operates zeros) (tz .operates zeros) e w
 
       stores : isOpen (d .state) ≡ true → d .width ≡ a .width
-      stores = store-width vl [] (viewOf pa zeros va a) (viewOf pb zeros vb b) (viewOf pd zeros vd d) (fa .good zeros refl) (fb .good zeros refl) (operandOf pa zeros va' xs x) (operandOf pb zeros vb' ys y) (operandOf pd zeros vd' zs z) (tx .operates zeros) (ty .operates zeros) (tz .operates zeros) e w
+      stores = store-width vl [] (viewOf pa zeros va a) (viewOf pb zeros vb b) (viewOf pd zeros vd d) (fa .good zeros refl) (fb .good zeros refl) (operandOf pa zeros va' xs a x) (operandOf pb zeros vb' ys b y) (operandOf pd zeros vd' zs d z) (tx .operates zeros) (ty .operates zeros) (tz .operates zeros) e w
 
-      inside : (o : Ahead) (width : ℕ) (ls : List ℤ) → beyond o width ls ≡ false → o .live ≡ true → allWithin len width (listedIn o ls) ≡ true
+      inside : (o : Ahead) (width : ℕ) (ls : List (List ℤ)) → beyond len o width ls ≡ false → o .live ≡ true → allWithin len width (listedIn o ls) ≡ true
       inside o width ls f t = not-false _ (and-false _ _ f t)
 
       -- no check refuses
@@ -123,17 +148,18 @@ module _ (vl len : ℕ) (same : Bool) (pa pb pd : Pattern) (a b d : Running) (va
             widths = λ t. (one, stores);
             within = λ t. record {
               wide = fa .good zeros refl .width;
-              room = omega (arith, fits vl [] (viewOf pa zeros va a) (viewOf pb zeros vb b) (viewOf pd zeros vd d) (fa .good zeros refl) (fb .good zeros refl) (operandOf pa zeros va' xs x) (operandOf pb zeros vb' ys y) (operandOf pd zeros vd' zs z) (tx .operates zeros) (ty .operates zeros) (tz .operates zeros) e w);
+              room = omega (arith, fits vl [] (viewOf pa zeros va a) (viewOf pb zeros vb b) (viewOf pd zeros vd d) (fa .good zeros refl) (fb .good zeros refl) (operandOf pa zeros va' xs a x) (operandOf pb zeros vb' ys b y) (operandOf pd zeros vd' zs d z) (tx .operates zeros) (ty .operates zeros) (tz .operates zeros) e w);
               counts = sym (eqb-true _ _ (not-false _ (or-false _ _ l .0)));
               fills = λ u.
                   let p : x .count ≤ z .count = ltb-false (z .count) (x .count) (and-false _ _ (or-false (not (eqb (x .count) (y .count))) _ l .1) u) in
-                  omega (arith, target-few (x .count) (viewOf pd zeros vd d) (operandOf pd zeros vd' zs z) (tz .operates zeros));
+                  omega (arith, target-few (x .count) (viewOf pd zeros vd d) (operandOf pd zeros vd' zs d z) (tz .operates zeros));
               first = inside x (a .width) xs ox;
               second = λ u. rw (one) at (inside y (b .width) ys oy u);
               third = λ u. rw (stores (sym (tz .operates zeros .told) ∙ u)) at (inside z (d .width) zs oz u);
               firstLong = taken-long pa va va' a (vl / a .width) (a .valid) xs x tx;
               secondLong = taken-long pb vb vb' b (vl / b .width) (b .valid) ys y ty;
-              near = (tx .near, (ty .near, tz .near));
+              thirdLong = taken-long pd vd vd' d (x .count) (x .count) zs z tz;
+              parts = (tx .parts, (ty .parts, tz .parts));
             };
             again = λ t. g;
           })

@@ -18,7 +18,8 @@ lane-room k n w m h p =
     let e : suc k * w ≡ k * w + w = suc-mul k w in
     omega arith
 
-lane-from : (bytes : List ℕ) (w s n k : ℕ) → k < n → getD (lanesFrom bytes w s n) k 0 ≡ valueAt bytes (s + k * w) w
+-- lane k of n lanes from byte s on
+pub lane-from : (bytes : List ℕ) (w s n k : ℕ) → k < n → getD (lanesFrom bytes w s n) k 0 ≡ valueAt bytes (s + k * w) w
 unfolding lanesFrom
 lane-from bytes w s zero k h = absurd (omega arith)
 lane-from bytes w s (suc n) zero h = let e : s ≡ s + 0 * w = omega arith in ap (λ i. valueAt bytes i w) e

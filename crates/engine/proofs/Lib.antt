@@ -2,7 +2,10 @@ mod Exact
 mod GainSteps
 mod GainRows
 mod RowReads
+mod PlainSteps
+mod AddressSteps
 mod Turns
+mod Remembered
 mod Found
 mod Rows
 mod RowSteps
@@ -14,6 +17,7 @@ mod ByteSteps
 mod PlaceSteps
 mod LaneSteps
 mod StretchSteps
+mod PartSteps
 mod LaneCounts
 mod Ordered
 mod BodySteps
@@ -26,5 +30,6 @@ pub mod Unrefused
 pub mod Promise1
 pub mod Looking
 pub mod Carrying
+mod Taking
 pub mod Clearing
 pub mod Rounds

@@ -1,20 +1,23 @@
--- A chunk looked at element by element: what is known after k elements, one element more, and a row at once.
+-- A chunk looked at: what is known after k elements, one element more, and a part of a row at once.
 --
 --   Going, going, goes-on         after k elements, where the chunk goes on
 --   ends-here, count-full         the chunk ends with the next one; it is as long as is asked for
---   shown-turned, looked          what is known at the end
---   row-going                     after k elements of a row
+--   shown-behind, looked          what is known at the end
+--   part-added                    the addresses of one part more
+--   part-within, part-on, part-last   a part more, of elements of one row
 use Prim.Native.Nat.{ℕ, zero, suc, _+_, _-_, _≤_, _<_, _^_, min}
 use mathlib.Core.Path.{_≡_, refl, sym, _∙_, ap, ap₂, subst}
-use mathlib.Core.List.{List, [], _∷_, _++_, map-append}
+use mathlib.Core.List.{List, [], _∷_, _++_, map-append, append-assoc, append-nil}
 use mathlib.Core.Bool.{Bool, true, false, not, cond, _||_}
 use native.Mathlib.Omega.{arith}
 use native.Mathlib.Numerals.{add-one}
 use lib.ListN.{length, getD, take, drop, set, replicate, length-drop, length-set}
-use lib.Seq.{take-suc, getD-drop, set-getD, getD-set-same}
-use lib.Dec.{eqb, ltb}
+use lib.Seq.{take-suc, take-suc-set, getD-drop, set-getD, getD-set-same}
+use lib.Dec.{ltb}
 use lib.IntN.{ℤ, pos, _+ℤ_, _*ℤ_, +ℤ-assoc, +ℤ-idr, *ℤ-one, *ℤ-zero}
-use borrow.Author.Tests.{ltb-true, ltb-false, lt-ltb, ne-eqb}
+use borrow.Author.Tests.{ltb-true, ltb-false, lt-ltb}
+use Rattle.codec.specs.TestLaws.{never}
+use Rattle.codec.specs.declared.amounts.Bytes.{Bytes}
 use Rattle.codec.specs.declared.header.Coupling.{Coupling}
 use Rattle.codec.specs.declared.header.Coupling.the-variants.{Uncoupled, Coupled}
 use Rattle.engine.specs.Loops.{sizeAt, elements}
@@ -26,20 +29,22 @@ use Rattle.engine.specs.PassLaws.{group-goes-on, group-ends, group-last,
 use Rattle.engine.specs.Addresses.{address}
 use Rattle.engine.specs.AddressLaws.{mul-add-right}
 use Rattle.engine.specs.Registers.{isOpen, indexOf, shapeOf, standing, movedBy}
-use Rattle.engine.specs.IndexLaws.{roomy, element-length, element-small, address-index, index-length}
+use Rattle.engine.specs.LoopLaws.{loops-within}
+use Rattle.engine.specs.Good.{Accepted}
+use Rattle.engine.specs.IndexLaws.{roomy, element-length, element-small, address-index, index-length, index-getD, size-index}
 use Rattle.engine.specs.CountLaws.{few}
 use Rattle.engine.specs.Walk.{Element}
 use Rattle.engine.specs.Places.{Place, placeAt, inRow, alongOf, Onward, stopsAt, Ready}
-use Rattle.engine.specs.Stretches.{progression, addressesOf}
-use Rattle.engine.specs.Runnings.{placeOf, spotted, viewOf, Remembers, Near, alongBy, turnedTo, Looks}
+use Rattle.engine.specs.Stretches.{progression, addressesIn, joinedIn, addressesOf}
+use Rattle.engine.specs.Runnings.{placeOf, viewOf, Remembers, Near, behind, Looks}
 use Rattle.engine.proofs.Moves.{moved-to}
+use Rattle.engine.proofs.PartSteps.{parts-append, part-alone}
 use Rattle.engine.proofs.RowSteps.{row-onward, in-row-along, place-fits}
 use Rattle.engine.specs.declared.stream.Shape.{Shape}
 use Rattle.engine.specs.declared.stream.Pattern.{Pattern}
-use Rattle.engine.specs.declared.place.Spot.{Spot}
 use Rattle.engine.specs.declared.running.Running.{Running}
-use Rattle.engine.specs.declared.register.State.{State}
-use Rattle.engine.specs.declared.register.State.the-variants.{Plain, Configuring, Open, Finished}
+use Rattle.engine.specs.declared.ahead.Ahead.{Ahead}
+use Rattle.engine.specs.declared.register.State.the-variants.{Open, Finished}
 use Rattle.engine.specs.declared.register.Register.{Register}
 
 -- how many elements are left of the group at a position, where the chunk stops and where it goes on
@@ -143,14 +148,6 @@ module _ (r : Register) (y : Ready r) (most k : ℕ) (place : Place) (h : ℕ) (
     pub ends-here : stopsAt (shapeOf r .coupling) found h' ≡ true → leftInGroup (groupsOf (shapeOf r)) (r .moved) ≡ k + 1
     ends-here t = omega (arith, g .rest, left .last t)
 
-    -- the group has it
-    pub one-left : k + 1 ≤ leftInGroup (groupsOf (shapeOf r)) (r .moved)
-    one-left = go (stopsAt (shapeOf r .coupling) found h') refl
-      where
-        go : (b : Bool) → stopsAt (shapeOf r .coupling) found h' ≡ b → k + 1 ≤ leftInGroup (groupsOf (shapeOf r)) (r .moved)
-        go true e = omega (arith, g .rest, left .last e)
-        go false e = omega (arith, g .rest, left .more e .0)
-
     -- or it goes on
     pub goes-on : k < most → stopsAt (shapeOf r .coupling) found h' ≡ false → Going r most (k + 1) place' h' (xs ++ (place .address .0 ∷ []))
     goes-on f t =
@@ -198,29 +195,28 @@ module _ (p : Pattern) (before : List ℕ) (q : Running) (y : Ready (viewOf p []
         remembers = m;
       }
 
--- the register after a step out of a row stands where the step led
-module _ (p : Pattern) (before row : List ℕ) (q : Running) (n h i : ℕ) (s : Spot) (e : i ≡ getD row 0 0) where
-  same-row : set row 0 i ≡ row
+-- the register behind a chunk stands where the walk does
+module _ (p : Pattern) (before row : List ℕ) (q : Running) (o : Ahead) (e : o .index ≡ getD row 0 0) where
+  same-row : set row 0 (o .index) ≡ row
   same-row = ap (set row 0) e ∙ set-getD row 0 0
 
-  pub shown-turned : (found : Bool) → (found ≡ false → row ≡ replicate 7 0) → (lanes : List ℕ)
-      → viewOf p lanes row (turnedTo n found h i s q) ≡ standing (cond found Open Finished) (q .moved + n) (cond found row (replicate 7 0)) h (viewOf p lanes before q)
-  shown-turned true z lanes = ap (λ v. standing Open (q .moved + n) v h (viewOf p lanes before q)) same-row
-  shown-turned false z lanes = ap (λ v. standing Finished (q .moved + n) (set v 0 0) h (viewOf p lanes before q)) (z refl)
+  row-behind : (found : Bool) → (found ≡ false → row ≡ replicate 7 0) → set row 0 (o .index) ≡ cond found row (replicate 7 0)
+  row-behind true z = same-row
+  row-behind false z = same-row ∙ z refl
 
-  pub remembers-turned : (found : Bool) → (found ≡ true → record { index = row; address = s .address; size = s .size; step = s .step } ≡ placeAt p (q .width) row)
-      → Remembers p row (turnedTo n found h i s q)
-  remembers-turned true f t =
-      ap (λ v. record { index = v; address = s .address; size = s .size; step = s .step }) same-row ∙ f refl ∙ ap (placeAt p (q .width)) (sym same-row)
-  remembers-turned false f t = absurd (let y : _≡_ {A = ℕ} 0 1 = cc in omega arith)
+  pub shown-behind : (o .found ≡ false → row ≡ replicate 7 0) → (lanes : List ℕ)
+      → viewOf p lanes row (behind o q) ≡ standing (cond (o .found) Open Finished) (q .moved + o .count) (cond (o .found) row (replicate 7 0)) (o .height) (viewOf p lanes before q)
+  shown-behind z lanes = ap (λ v. standing (cond (o .found) Open Finished) (q .moved + o .count) v (o .height) (viewOf p lanes before q)) (row-behind (o .found) z)
+
+  pub remembers-behind : (o .found ≡ true → record { index = row; address = o .address; size = o .size; step = o .step } ≡ placeAt p (q .width) row)
+      → Remembers p row (behind o q)
+  remembers-behind f t = go (o .found) refl
+    where
+      go : (b : Bool) → o .found ≡ b → placeOf row (behind o q) ≡ placeAt p (q .width) (set row 0 (o .index))
+      go true k = ap (λ v. record { index = v; address = o .address; size = o .size; step = o .step }) same-row ∙ f k ∙ ap (placeAt p (q .width)) (sym same-row)
+      go false k = absurd (let w : isOpen (cond (o .found) Open Finished) ≡ true = t in let y : _≡_ {A = Bool} false true = rw k at w in never y)
 
 -- ---- a row at once
-
-open-state : (k : State) → isOpen k ≡ true → k ≡ Open
-open-state Plain e = absurd (let z : _≡_ {A = ℕ} 0 1 = cc in omega arith)
-open-state Configuring e = absurd (let z : _≡_ {A = ℕ} 0 1 = cc in omega arith)
-open-state Open e = refl
-open-state Finished e = absurd (let z : _≡_ {A = ℕ} 0 1 = cc in omega arith)
 
 -- so many steps and one more
 step-more : (a s : ℤ) (k : ℕ) → (a +ℤ (s *ℤ pos k)) +ℤ s ≡ a +ℤ (s *ℤ pos (k + 1))
@@ -249,109 +245,119 @@ progression-more a s (suc k) =
     let z : suc k + 1 ≡ suc (k + 1) = omega arith in
     ap (progression a s) z ∙ ap (λ l. a ∷ l) (progression-more (a +ℤ s) s k ∙ ap (λ y. progression (a +ℤ s) s k ++ (y ∷ [])) (step-first a s k))
 
--- the place k elements further along the row
-abbrev pub rowPlace : List ℕ → Running → ℕ → Place
-rowPlace row q k = inRow row (q .index + k) (record { 0 = q .address .0 +ℤ (q .step .0 *ℤ pos k) }) (q .size) (q .step)
+-- the place k elements further along a row
+abbrev pub rowPlace : List ℕ → ℕ → Bytes → ℕ → Bytes → ℕ → Place
+rowPlace row i a size step k = inRow row (i + k) (record { 0 = a .0 +ℤ (step .0 *ℤ pos k) }) size step
 
 -- the height of the flags there
-abbrev pub rowHeight : Running → ℕ → ℕ
-rowHeight q zero = q .height
-rowHeight q (suc k) = 1
+abbrev pub rowHeight : ℕ → ℕ → ℕ
+rowHeight h zero = h
+rowHeight h (suc k) = 1
 
-row-first : (row : List ℕ) (q : Running) → rowPlace row q 0 ≡ placeOf row q
-row-first row q =
-    let z : q .index + 0 ≡ q .index = omega arith in
-    λ t. inRow row (z t) (record { 0 = step-none (q .address .0) (q .step .0) t }) (q .size) (q .step)
+row-first : (row : List ℕ) (i : ℕ) (a : Bytes) (size : ℕ) (step : Bytes) → inRow row i a size step ≡ rowPlace row i a size step 0
+row-first row i a size step =
+    let z : i ≡ i + 0 = omega arith in
+    λ t. inRow row (z t) (record { 0 = sym (step-none (a .0) (step .0)) t }) size step
 
-row-next : (row : List ℕ) (q : Running) → 0 < length row → (k : ℕ) → alongOf (rowPlace row q k) ≡ rowPlace row q (k + 1)
-row-next row q l k =
-    let z : q .index + k + 1 ≡ q .index + (k + 1) = omega arith in
-    in-row-along row (q .index + k) (rowPlace row q k .address) (q .size) (q .step) l
-    ∙ (λ t. inRow row (z t) (record { 0 = step-more (q .address .0) (q .step .0) k t }) (q .size) (q .step))
+row-next : (row : List ℕ) (i : ℕ) (a : Bytes) (size : ℕ) (step : Bytes) → 0 < length row → (k : ℕ) → alongOf (rowPlace row i a size step k) ≡ rowPlace row i a size step (k + 1)
+row-next row i a size step l k =
+    let z : i + k + 1 ≡ i + (k + 1) = omega arith in
+    in-row-along row (i + k) (rowPlace row i a size step k .address) size step l
+    ∙ (λ t. inRow row (z t) (record { 0 = step-more (a .0) (step .0) k t }) size step)
 
 -- a row of indices has seven
 pub row-long : (p : Pattern) (row : List ℕ) (q : Running) → Ready (viewOf p [] row q) → length row ≡ 7
 row-long p row q y = sym (length-set row 0 (q .index)) ∙ ap length (y .index) ∙ index-length (getD (elements (p .shape)) (q .moved) [])
 
-module _ (p : Pattern) (row : List ℕ) (q : Running) (y : Ready (viewOf p [] row q)) (m : placeOf row q ≡ placeAt p (q .width) (set row 0 (q .index)))
-    (through : stopsAt (p .shape .coupling) true 1 ≡ false) where
-  l : 0 < length row
-  l = omega (arith, row-long p row q y)
+-- the addresses of one part more
+pub part-added : (rows : List (List ℤ)) (m : ℕ) (part : List ℤ) → m < length rows → joinedIn (take (m + 1) (set rows m part)) ≡ joinedIn (take m rows) ++ addressesIn part
+part-added rows m part h =
+    ap joinedIn (rw (add-one m) (take-suc-set rows m part h)) ∙ parts-append (take m rows) (part ∷ []) ∙ ap (λ l. joinedIn (take m rows) ++ l) (part-alone part)
 
+-- a part more, of n elements of the row at which the walk stands after c elements
+module _ (r : Register) (y : Ready r) (most c : ℕ) (row : List ℕ) (i : ℕ) (a : Bytes) (size : ℕ) (step : Bytes) (h : ℕ) (xs : List ℤ)
+    (g : Going r most c (inRow row i a size step) h xs) (l : 0 < length row) where
   -- after k elements of the row the chunk goes on
-  row-going : (most k : ℕ) → k ≤ most → q .index + k < q .size → Going (viewOf p [] row q) most k (rowPlace row q k) (rowHeight q k) (progression (q .address .0) (q .step .0) k)
+  row-going : (k : ℕ) → c + k ≤ most → i + k < size → (1 ≤ k → stopsAt (shapeOf r .coupling) true 1 ≡ false)
+      → Going r most (c + k) (rowPlace row i a size step k) (rowHeight h k) (xs ++ progression (a .0) (step .0) k)
   unfolding progression
-  row-going most zero f h = going (viewOf p [] row q) y most (rowPlace row q 0) (row-first row q ∙ m)
-  row-going most (suc k) f h =
-      let g = row-going most k (omega arith) (omega arith) in
-      let r = viewOf p [] row q in
-      let x = here-index r y most k (rowPlace row q k) (rowHeight q k) _ g in
-      let i : getD (rowPlace row q k .index) 0 0 ≡ q .index + k = getD-set-same row 0 (q .index + k) 0 l in
-      let on = row-onward p (q .width) (y .accepted) (rowPlace row q k) (q .moved + k) (g .below) x (here-place r y most k (rowPlace row q k) (rowHeight q k) _ g) (omega (arith, i)) in
-      let o = goes-on r y most k (rowPlace row q k) (rowHeight q k) _ g true (alongOf (rowPlace row q k)) 1 on (omega arith) through in
-      subst (λ j. Going r most j (rowPlace row q j) 1 (progression (q .address .0) (q .step .0) j)) (add-one k)
-      (subst (λ xs. Going r most (k + 1) (rowPlace row q (k + 1)) 1 xs) (sym (progression-more (q .address .0) (q .step .0) k))
-      (subst (λ w. Going r most (k + 1) w 1 (progression (q .address .0) (q .step .0) k ++ (rowPlace row q k .address .0 ∷ []))) (row-next row q l k) o))
+  row-going zero f b s =
+      let z : c ≡ c + 0 = omega arith in
+      subst (λ w. w) (λ t. Going r most (z t) (row-first row i a size step t) h (sym (append-nil xs) t)) g
+  row-going (suc k) f b s =
+      let o = row-going k (omega arith) (omega arith) (λ t. s (omega arith)) in
+      let v = rowPlace row i a size step k in
+      let ys = xs ++ progression (a .0) (step .0) k in
+      let e : getD (v .index) 0 0 ≡ i + k = getD-set-same row 0 (i + k) 0 l in
+      let on = row-onward (r .pattern) (r .width) (y .accepted) v (r .moved + (c + k)) (o .below) (here-index r y most (c + k) v (rowHeight h k) ys o) (here-place r y most (c + k) v (rowHeight h k) ys o) (omega (arith, e)) in
+      let w = goes-on r y most (c + k) v (rowHeight h k) ys o true (alongOf v) 1 on (omega arith) (s (omega arith)) in
+      let z : c + k + 1 ≡ c + suc k = omega arith in
+      subst (λ u. u) (λ t. Going r most (z t) ((row-next row i a size step l k ∙ ap (rowPlace row i a size step) (add-one k)) t) 1
+      ((append-assoc xs (progression (a .0) (step .0) k) (v .address .0 ∷ []) ∙ ap (λ u. xs ++ u) (sym (progression-more (a .0) (step .0) k) ∙ ap (progression (a .0) (step .0)) (add-one k))) t)) w
 
-  -- a chunk that ends before its row does
-  pub row-within : isOpen (q .state) ≡ true → (n : ℕ) → q .index + n < q .size → Looks p row q n n (progression (q .address .0) (q .step .0) n) row (cond (eqb n 0) q (alongBy n q))
-  row-within o zero h =
-      let g = row-going 0 0 (omega arith) (omega arith) in
-      let z : q .moved ≡ q .moved + 0 = omega arith in
-      let i : q .index ≡ q .index + 0 = omega arith in
-      looked p row q y 0 0 _ row q (omega arith) (g .addressed) true (rowPlace row q 0) (q .height) (g .onward)
-      (λ lanes t. standing (open-state (q .state) o t) (z t) (set row 0 (i t)) (q .height) (viewOf p lanes row q))
-      (λ t. m)
-  row-within o (suc n) h =
-      let g = row-going (suc n) (suc n) (omega arith) h in
-      let z : eqb (suc n) 0 ≡ false = ne-eqb (suc n) 0 (λ e. omega arith) in
-      rw z
-      (looked p row q y (suc n) (suc n) _ row (alongBy (suc n) q) (omega (arith, g .rest)) (g .addressed) true (rowPlace row q (suc n)) 1 (g .onward)
-      (λ lanes. refl)
-      (λ t. here-place (viewOf p [] row q) y (suc n) (suc n) (rowPlace row q (suc n)) 1 _ g))
+  -- a part that does not end its row
+  pub part-within : (n : ℕ) → 1 ≤ n → c + n ≤ most → i + n < size → stopsAt (shapeOf r .coupling) true 1 ≡ false
+      → Going r most (c + n) (inRow row (i + n) (record { 0 = a .0 +ℤ (step .0 *ℤ pos n) }) size step) 1 (xs ++ progression (a .0) (step .0) n)
+  part-within zero p f b s = absurd (omega arith)
+  part-within (suc n) p f b s = row-going (suc n) f b (λ t. s)
 
-  -- a chunk up to the end of its row
-  module _ (n : ℕ) (some : 1 ≤ n) (end : q .index + n ≡ q .size) where
-    short : Going (viewOf p [] row q) n (n - 1) (rowPlace row q (n - 1)) (rowHeight q (n - 1)) (progression (q .address .0) (q .step .0) (n - 1))
-    short = row-going n (n - 1) (omega arith) (omega arith)
+  -- a part up to the end of its row, or of one element
+  module _ (n : ℕ) (some : 1 ≤ n) (f : c + n ≤ most) (b : i + n ≤ size) (s : 2 ≤ n → stopsAt (shapeOf r .coupling) true 1 ≡ false) where
+    short : Going r most (c + (n - 1)) (rowPlace row i a size step (n - 1)) (rowHeight h (n - 1)) (xs ++ progression (a .0) (step .0) (n - 1))
+    short = row-going (n - 1) (omega arith) (omega arith) (λ t. s (omega arith))
 
-    last-index : set row 0 (q .size - 1) ≡ indexOf (getD (elements (p .shape)) (q .moved + (n - 1)) [])
+    pub last-index : set row 0 (i + n - 1) ≡ indexOf (getD (elements (shapeOf r)) (r .moved + (c + (n - 1))) [])
     last-index =
-        let z : q .size - 1 ≡ q .index + (n - 1) = omega arith in
-        ap (set row 0) z ∙ here-index (viewOf p [] row q) y n (n - 1) _ _ _ short
+        let z : i + n - 1 ≡ i + (n - 1) = omega arith in
+        ap (set row 0) z ∙ here-index r y most (c + (n - 1)) _ _ _ short
 
-    -- the last element of the row
-    pub last-element : Element (p .shape) (set row 0 (q .size - 1))
-    last-element = record { position = q .moved + (n - 1); below = short .below; here = last-index }
+    pub last-below : r .moved + (c + (n - 1)) < length (elements (shapeOf r))
+    last-below = short .below
 
-    pub room-end : q .moved + n < 2 ^ 32
-    room-end = omega (arith, short .below, few (p .shape), y .accepted .few)
+    -- its last element
+    pub last-element : Element (shapeOf r) (set row 0 (i + n - 1))
+    last-element = record { position = r .moved + (c + (n - 1)); below = last-below; here = last-index }
 
-    pub row-ended : (found : Bool) (to : List ℕ) (s : Spot) (h : ℕ) → (found ≡ false → to ≡ replicate 7 0)
-        → ((k : ℕ) → k < length (elements (p .shape)) → set row 0 (q .size - 1) ≡ indexOf (getD (elements (p .shape)) k []) → Onward p (q .width) (suc k) found (spotted to s) h)
-        → Looks p row q n n (progression (q .address .0) (q .step .0) n) to (turnedTo n found h (getD to 0 0) s q)
-    row-ended found to s h z on =
-        let r = viewOf p [] row q in
-        let o = on (q .moved + (n - 1)) (short .below) last-index in
-        let f : n - 1 + 1 ≡ n = omega arith in
-        let w = subst (λ j. Onward p (q .width) (q .moved + j) found (spotted to s) h) f (onward-more r y n (n - 1) _ _ _ short found (spotted to s) h o) in
-        looked p row q y n n _ to _
-        (omega (arith, one-left r y n (n - 1) _ _ _ short found (spotted to s) h o))
-        (ap (progression (q .address .0) (q .step .0)) (sym f) ∙ progression-more (q .address .0) (q .step .0) (n - 1) ∙ one-more r y n (n - 1) _ _ _ short ∙ ap (λ j. addressesOf p (q .width) (take j (drop (q .moved) (elements (p .shape))))) f)
-        found (spotted to s) h w
-        (shown-turned p row to q n h (getD to 0 0) s refl found z)
-        (remembers-turned p row to q n h (getD to 0 0) s refl found (λ t. w .here t ∙ ap (placeAt p (q .width)) (sym (ap (λ v. v .index) (w .here t)))))
+    last-count : c + (n - 1) + 1 ≡ c + n
+    last-count = omega arith
+
+    whole : (xs ++ progression (a .0) (step .0) (n - 1)) ++ ((a .0 +ℤ (step .0 *ℤ pos (n - 1))) ∷ []) ≡ xs ++ progression (a .0) (step .0) n
+    whole =
+        let z : n - 1 + 1 ≡ n = omega arith in
+        append-assoc xs (progression (a .0) (step .0) (n - 1)) _ ∙ ap (λ u. xs ++ u) (sym (progression-more (a .0) (step .0) (n - 1)) ∙ ap (progression (a .0) (step .0)) z)
+
+    pub part-addressed : xs ++ progression (a .0) (step .0) n ≡ addressesOf (r .pattern) (r .width) (take (c + n) (drop (r .moved) (elements (shapeOf r))))
+    part-addressed =
+        sym whole ∙ one-more r y most (c + (n - 1)) _ _ _ short ∙ ap (λ j. addressesOf (r .pattern) (r .width) (take j (drop (r .moved) (elements (shapeOf r))))) last-count
+
+    module _ (found : Bool) (place : Place) (h' : ℕ) (on : Onward (r .pattern) (r .width) (suc (r .moved + (c + (n - 1)))) found place h') where
+      pub part-onward : Onward (r .pattern) (r .width) (r .moved + (c + n)) found place h'
+      part-onward = subst (λ j. Onward (r .pattern) (r .width) (r .moved + j) found place h') last-count (onward-more r y most (c + (n - 1)) _ _ _ short found place h' on)
+
+      -- the chunk ends with it
+      pub part-last : stopsAt (shapeOf r .coupling) found h' ≡ true → leftInGroup (groupsOf (shapeOf r)) (r .moved) ≡ c + n
+      part-last t = omega (arith, ends-here r y most (c + (n - 1)) _ _ _ short found place h' on t)
+
+      -- or goes on in another row
+      pub part-on : stopsAt (shapeOf r .coupling) found h' ≡ false → Going r most (c + n) place h' (xs ++ progression (a .0) (step .0) n)
+      part-on t =
+          subst (λ u. u) (λ k. Going r most (last-count k) place h' (whole k)) (goes-on r y most (c + (n - 1)) _ _ _ short found place h' on (omega arith) t)
 
 -- the address and the step that are remembered are far from overflowing
 pub near : (p : Pattern) (row : List ℕ) (q : Running) → Ready (viewOf p [] row q) → placeOf row q ≡ placeAt p (q .width) (set row 0 (q .index)) → Near (q .address) (q .step)
 near p row q y m =
     place-fits p (y .pattern) (q .width) (y .width) (y .accepted) (placeOf row q) (record { position = q .moved; below = y .some; here = y .index }) m
 
+-- the innermost index of an element is below the innermost size there
+pub inner-below : (s : Shape) → Accepted s → (v : List ℕ) → Element s v → getD v 0 0 < sizeAt s 0 (drop 1 v)
+unfolding elements
+inner-below s y v e =
+    let w = getD (elements s) (e .position) [] in
+    let n = element-length s (roomy s y) (e .position) (e .below) in
+    let b = loops-within (sizeAt s) 0 (s .dims) [] (e .position) (e .below) .below 0 (y .some) in
+    omega (arith, b, ap (λ u. getD u 0 0) (e .here), index-getD w (s .dims) 0 n (y .ranged .dims), ap (λ u. sizeAt s 0 (drop 1 u)) (e .here), size-index s w (s .dims) 0 n (y .ranged .dims) (y .some))
+
 -- indices are below 4,096
 pub inner-small : (p : Pattern) (row : List ℕ) (q : Running) → Ready (viewOf p [] row q) → q .index ≤ 4095
 inner-small p row q y =
     omega (arith, element-small (p .shape) (y .accepted) (set row 0 (q .index)) (record { position = q .moved; below = y .some; here = y .index }) 0, getD-set-same row 0 (q .index) 0 (omega (arith, row-long p row q y)))
-
--- elements moved are few
-pub moved-small : (p : Pattern) (row : List ℕ) (q : Running) → Ready (viewOf p [] row q) → q .moved < 2 ^ 20
-moved-small p row q y = omega (arith, y .some, few (p .shape), y .accepted .few)

@@ -18,16 +18,16 @@ use Rattle.engine.specs.Good.{Good, AllGood}
 use Rattle.engine.specs.Lanes.{lane, lanewise}
 use Rattle.engine.specs.Loops.{natural}
 use Rattle.engine.specs.Memory.{valueAt, holding, packed}
-use Rattle.engine.specs.Registers.{isOpen, movedBy, reg}
+use Rattle.engine.specs.Registers.{isOpen, reg}
 use Rattle.engine.specs.Configure.{unlessBecause}
 use Rattle.engine.specs.EffectLaws.{length-lanes, lanewise-length}
 use Rattle.engine.specs.Stretches.{storedAt}
 use Rattle.engine.specs.Rows.{patternAt}
-use Rattle.engine.specs.Runnings.{viewOf, Remembers, filledWith}
+use Rattle.engine.specs.Runnings.{viewOf, Remembers, filledWith, afterwards, listedIn}
 use Rattle.engine.specs.Operands.{Operates, operandOf, Taken, lanesOf, lanesOut, whyOn, resultsOn, Calculated, CarriedOut}
 use Rattle.engine.specs.OperandLaws.{source-count}
 use Rattle.engine.specs.Calculate.{memoryAfter}
-use Rattle.engine.specs.Calculations.{listedIn, lanesIn, outcomeOf, Fit, Within, Cleared, Carries}
+use Rattle.engine.specs.Calculations.{lanesIn, outcomeOf, Fit, Within, Cleared, Carries}
 use Rattle.engine.specs.Layouts.{noRunning, viewAt, registersIn, LaidOut}
 use Rattle.engine.specs.LayoutLaws.{views-at, views-set, laid-set}
 use Rattle.engine.proofs.Carrying.{source-lanes, source-shown, target-shown, remembers-filled, taken-long}
@@ -79,7 +79,7 @@ module _ (shapes : List (List ℕ)) (places : List (List ℤ)) (lanes indices : 
       (subst (λ r. Calculated vl action memory r (viewAt shapes places lanes indices all j) (viewAt shapes places lanes indices all t) why f s w after) (sym (views-at shapes places lanes indices all i hi)) h))
 
 -- how many lanes an operand gives
-lanes-count : (w : ℕ) (memory : List ℕ) (o : Ahead) (xs : List ℤ) (lanes : List ℕ) → (o .live ≡ true → length (listedIn o xs) ≡ o .count) → length (lanesIn w memory o xs lanes) ≡ o .count
+lanes-count : (w : ℕ) (memory : List ℕ) (o : Ahead) (xs : List (List ℤ)) (lanes : List ℕ) → (o .live ≡ true → length (listedIn o xs) ≡ o .count) → length (lanesIn w memory o xs lanes) ≡ o .count
 lanes-count w memory o xs lanes h = go (o .live) refl
   where
     go : (b : Bool) → o .live ≡ b → length (lanesIn w memory o xs lanes) ≡ o .count
@@ -92,27 +92,25 @@ stored-width true memory v w l xs h = ap (λ j. storedAt memory j l xs) (h refl)
 stored-width false memory v w l xs h = refl
 
 -- a chunk changes no width
-after-width : (p : Pattern) (before row : List ℕ) (q : Running) (most plain : ℕ) (xs : List ℤ) (o : Ahead) → Taken p before q most plain row xs o → o .after .width ≡ q .width
-unfolding movedBy
-after-width p before row q most plain xs o t = go (isOpen (q .state)) refl
+after-width : (q : Running) (o : Ahead) → afterwards o q .width ≡ q .width
+after-width q o = go (o .live) refl
   where
-    go : (b : Bool) → isOpen (q .state) ≡ b → o .after .width ≡ q .width
-    go true e = ap (λ r. r .width) (rw e at (t .operates [] .after))
-    go false e = ap (λ r. r .width) (rw e at (t .operates [] .after))
+    go : (b : Bool) → o .live ≡ b → afterwards o q .width ≡ q .width
+    go true e = rw e
+    go false e = rw e
 
 -- what a destination remembers
-remembers-written : (p : Pattern) (before row : List ℕ) (q : Running) (most plain : ℕ) (xs : List ℤ) (o : Ahead) → Taken p before q most plain row xs o
-    → (width n : ℕ) (f : Running) → f ≡ cond (o .live) (o .after) (filledWith width n (o .after)) → Remembers p row f
+remembers-written : (p : Pattern) (before row : List ℕ) (q : Running) (most plain : ℕ) (xs : List (List ℤ)) (o : Ahead) → Taken p before q most plain row xs o
+    → (width n : ℕ) (f : Running) → f ≡ cond (o .live) (afterwards o q) (filledWith width n (afterwards o q)) → Remembers p row f
 remembers-written p before row q most plain xs o t width n f e = go (o .live) refl
   where
     go : (b : Bool) → o .live ≡ b → Remembers p row f
-    go true k = subst (Remembers p row) (sym (rw k at e)) (t .remembers)
+    go true k = subst (Remembers p row) (sym (rw k at e)) (rw k at (t .remembers))
     go false k =
         let c : isOpen (q .state) ≡ false = sym (t .operates [] .told) ∙ k in
-        let s : o .after .state ≡ q .state = ap (λ r. r .state) (rw c at (t .operates [] .after)) in
-        subst (Remembers p row) (sym (rw k at e)) (λ u. never (sym (ap isOpen s ∙ c) ∙ u))
+        subst (Remembers p row) (sym (rw k at e)) (λ u. never (sym c ∙ u))
 
-module _ (vl : ℕ) (same : Bool) (pa pb pd : Pattern) (a b d : Running) (va vb vd va' vb' vd' : List ℕ) (xs ys zs : List ℤ) (r : Checked) (la lb ld memory : List ℕ)
+module _ (vl : ℕ) (same : Bool) (pa pb pd : Pattern) (a b d : Running) (va vb vd va' vb' vd' : List ℕ) (xs ys zs : List (List ℤ)) (r : Checked) (la lb ld memory : List ℕ)
     (c : Cleared vl (length memory) same pa pb pd a b d va vb vd va' vb' vd' xs ys zs r) (ea : length la ≡ 64) (eb : length lb ≡ 64) (ed : length ld ≡ 64) (action : Action) where
   -- a refused calculation
   pub refused-so : (x : Refusal) → r .why ≡ Because x → (f s w : Register) → Calculated vl action memory (viewOf pa la va a) (viewOf pb lb vb b) (viewOf pd ld vd d) (r .why) f s w memory
@@ -127,7 +125,7 @@ module _ (vl : ℕ) (same : Bool) (pa pb pd : Pattern) (a b d : Running) (va vb 
       }
 
   module _ (e : r .why ≡ Nothing) (fa : Fit vl pa va a) (q : Outcome) (la' lb' ld' memory' : List ℕ)
-      (k : Carries action (a .width) memory (r .first) (r .second) (r .destination) xs ys zs la lb ld q la' lb' ld' memory') where
+      (k : Carries action (a .width) memory a b d (r .first) (r .second) (r .destination) xs ys zs la lb ld q la' lb' ld' memory') where
     tx : Taken pa va a (vl / a .width) (a .valid) va' xs (r .first)
     tx = c .first e
 
@@ -140,22 +138,22 @@ module _ (vl : ℕ) (same : Bool) (pa pb pd : Pattern) (a b d : Running) (va vb 
     one : b .width ≡ a .width
     one = c .widths e .0
 
-    first-lanes : lanesIn (a .width) memory (r .first) xs la ≡ lanesOf (viewOf pa la va a) (operandOf pa la va' xs (r .first)) memory
+    first-lanes : lanesIn (a .width) memory (r .first) xs la ≡ lanesOf (viewOf pa la va a) (operandOf pa la va' xs a (r .first)) memory
     first-lanes = source-lanes pa va va' a (vl / a .width) (a .valid) xs (r .first) tx memory la refl
 
-    second-lanes : lanesIn (a .width) memory (r .second) ys lb ≡ lanesOf (viewOf pb lb vb b) (operandOf pb lb vb' ys (r .second)) memory
+    second-lanes : lanesIn (a .width) memory (r .second) ys lb ≡ lanesOf (viewOf pb lb vb b) (operandOf pb lb vb' ys b (r .second)) memory
     second-lanes = ap (λ w. lanesIn w memory (r .second) ys lb) (sym one) ∙ source-lanes pb vb vb' b (vl / b .width) (b .valid) ys (r .second) ty memory lb refl
 
-    out : outcomeOf action (a .width) memory (r .first) (r .second) xs ys la lb ≡ lanesOut action memory (viewOf pa la va a) (viewOf pb lb vb b) (operandOf pa la va' xs (r .first)) (operandOf pb lb vb' ys (r .second))
+    out : outcomeOf action (a .width) memory (r .first) (r .second) xs ys la lb ≡ lanesOut action memory (viewOf pa la va a) (viewOf pb lb vb b) (operandOf pa la va' xs a (r .first)) (operandOf pb lb vb' ys b (r .second))
     out = ap₂ (lanewise (lane action (8 * a .width))) first-lanes second-lanes
 
     -- a calculation that was carried out
     calculated : Calculated vl action memory (viewOf pa la va a) (viewOf pb lb vb b) (viewOf pd ld vd d) (r .why) (viewOf pa la' va' (q .first)) (viewOf pb lb' vb' (q .second)) (viewOf pd ld' vd' (q .destination)) memory'
     calculated =
         let w = c .within e in
-        let x = operandOf pa la va' xs (r .first) in
-        let y = operandOf pb lb vb' ys (r .second) in
-        let z = operandOf pd ld vd' zs (r .destination) in
+        let x = operandOf pa la va' xs a (r .first) in
+        let y = operandOf pb lb vb' ys b (r .second) in
+        let z = operandOf pd ld vd' zs d (r .destination) in
         let g = fa .good la ea in
         let n : r .first .count ≡ length (outcomeOf action (a .width) memory (r .first) (r .second) xs ys la lb) =
         sym (lanewise-length _ (lanesIn (a .width) memory (r .first) xs la) (lanesIn (a .width) memory (r .second) ys lb)
@@ -167,20 +165,20 @@ module _ (vl : ℕ) (same : Bool) (pa pb pd : Pattern) (a b d : Running) (va vb 
           done = e;
           read = source-shown pa va va' a (vl / a .width) (a .valid) xs (r .first) tx memory la refl (q .first) la' (k .read) (k .chunk);
           other = source-shown pb vb vb' b (vl / b .width) (b .valid) ys (r .second) ty memory lb refl (q .second) lb'
-              (k .other ∙ ap (λ j. cond (r .second .live) (filledWith j (r .second .count) (r .second .after)) (r .second .after)) (sym one))
+              (k .other ∙ ap (λ j. cond (r .second .live) (filledWith j (r .second .count) (afterwards (r .second) b)) (afterwards (r .second) b)) (sym one))
               (k .otherChunk ∙ ap (λ j. cond (r .second .live) (packed j (lanesIn j memory (r .second) ys lb)) lb) (sym one));
           written = target-shown pd vd vd' d (r .first .count) (r .first .count) zs (r .destination) tz ld (a .width) (r .first .count) _ n (q .destination) ld' (k .written) (k .content)
-              ∙ ap (λ l. cond (r .destination .live) (viewOf pd ld vd' (r .destination .after)) (holding (a .width) l (viewOf pd ld vd d))) out;
+              ∙ ap (λ l. cond (r .destination .live) (viewOf pd ld vd' (afterwards (r .destination) d)) (holding (a .width) l (viewOf pd ld vd d))) out;
           stored = k .stored ∙ ap (λ l. cond (r .destination .live) (storedAt memory (a .width) (listedIn (r .destination) zs) l) memory) out
               ∙ stored-width (r .destination .live) memory (a .width) (d .width) _ _ (λ t. sym (c .widths e .1 (sym (tz .operates ld .told) ∙ t)));
         })
 
     -- what the three registers remember
     remember-first : Remembers pa va' (q .first)
-    remember-first = remembers-filled pa va' (r .first .live) (a .width) (r .first .count) (r .first .after) (q .first) (after-width pa va va' a (vl / a .width) (a .valid) xs (r .first) tx) (tx .remembers) (k .read)
+    remember-first = remembers-filled pa va' (r .first .live) (a .width) (r .first .count) (afterwards (r .first) a) (q .first) (after-width a (r .first)) (tx .remembers) (k .read)
 
     remember-second : Remembers pb vb' (q .second)
-    remember-second = remembers-filled pb vb' (r .second .live) (a .width) (r .second .count) (r .second .after) (q .second) (after-width pb vb vb' b (vl / b .width) (b .valid) ys (r .second) ty ∙ one) (ty .remembers) (k .other)
+    remember-second = remembers-filled pb vb' (r .second .live) (a .width) (r .second .count) (afterwards (r .second) b) (q .second) (after-width b (r .second) ∙ one) (ty .remembers) (k .other)
 
     remember-third : Remembers pd vd' (q .destination)
     remember-third = remembers-written pd vd vd' d (r .first .count) (r .first .count) zs (r .destination) tz (a .width) (r .first .count) (q .destination) (k .written)
@@ -191,7 +189,7 @@ module _ (vl : ℕ) (same : Bool) (pa pb pd : Pattern) (a b d : Running) (va vb 
     round = (calculated, (remember-first, (remember-second, remember-third)))
 
 -- the arrays of a run: laid out, with room for addresses, beside a memory of so many bytes
-pub record Laid (shapes : List (List ℕ)) (places : List (List ℤ)) (lanes indices : List (List ℕ)) (all : List Running) (xs ys zs : List ℤ) (len : ℕ) (memory : List ℕ) : Type 0 where
+pub record Laid (shapes : List (List ℕ)) (places : List (List ℤ)) (lanes indices : List (List ℕ)) (all : List Running) (xs ys zs : List (List ℤ)) (len : ℕ) (memory : List ℕ) : Type 0 where
   pub out : LaidOut shapes places lanes indices all
   pub firsts : length xs ≡ 64
   pub seconds : length ys ≡ 64

@@ -20,18 +20,14 @@ use Rattle.engine.specs.AddressLaws.{mul-add-right}
 use Rattle.engine.specs.Gains.{sub-less, sub-pos}
 use Rattle.engine.specs.Memory.{valueAt, littleEndian, lanesFrom, joined, packed}
 use Rattle.engine.specs.ByteLaws.{Bytewise, length-little}
-use Rattle.engine.specs.PackedLaws.{length-lanes, zeros, joined-lanes, packed-lanes}
+use Rattle.engine.specs.PackedLaws.{length-lanes, zeros, joined-lanes, packed-front, packed-lanes}
 use Rattle.engine.specs.Lanes.{lanewise}
 use Rattle.engine.specs.Stretches.{progression, allWithin, fetchedAt, storedAt}
 use Rattle.engine.proofs.ByteSteps.{sets-append}
 use Rattle.engine.proofs.PlaceSteps.{inside-room}
-use Rattle.engine.proofs.LaneSteps.{packed-more, packed-none, lane-at}
+use Rattle.engine.proofs.LaneSteps.{packed-more, packed-none, lane-from, lane-at}
 
 -- ---- whether addresses lie inside
-
-pub within-none : (len w : ℕ) → allWithin len w [] ≡ true
-unfolding allWithin
-within-none len w = refl
 
 -- all inside: each is
 pub within-at : (len w : ℕ) (l : List ℤ) (k : ℕ) → allWithin len w l ≡ true → k < length l → inside len w (getD l k (pos 0)) ≡ true
@@ -52,11 +48,6 @@ unfolding allWithin
 outside-at len w [] k h e = absurd (omega arith)
 outside-at len w (a ∷ l) zero h e = and-left (inside len w a) (allWithin len w l) e
 outside-at len w (a ∷ l) (suc k) h e = and-right (inside len w a) (allWithin len w l) (outside-at len w l k (omega arith) e)
-
--- .. of the first n
-pub outside-taken : (len w : ℕ) (l : List ℤ) (k n : ℕ) → k < n → n ≤ length l → inside len w (getD l k (pos 0)) ≡ false → allWithin len w (take n l) ≡ false
-outside-taken len w l k n h p e =
-    outside-at len w (take n l) k (omega (arith, length-take-le n l p)) (ap (inside len w) (getD-take n l k (pos 0) h) ∙ e)
 
 -- ---- rows
 
@@ -147,7 +138,8 @@ pub within-more : (len w : ℕ) (l : List ℤ) (k : ℕ) → k < length l → al
     → allWithin len w (take (k + 1) l) ≡ true
 within-more len w l k h e f = rw (add-one k, take-suc l k (pos 0) h) (within-snoc len w (take k l) (getD l k (pos 0)) e f)
 
-map-at : (f : ℤ → ℕ) (l : List ℤ) (k : ℕ) → k < length l → getD (map f l) k 0 ≡ f (getD l k (pos 0))
+-- what a function makes of element k
+pub map-at : (f : ℤ → ℕ) (l : List ℤ) (k : ℕ) → k < length l → getD (map f l) k 0 ≡ f (getD l k (pos 0))
 map-at f [] k h = absurd (omega arith)
 map-at f (a ∷ l) zero h = refl
 map-at f (a ∷ l) (suc k) h = map-at f l k (omega arith)
@@ -161,18 +153,6 @@ packed-next w xs k {x} {lanes} {after} h room p q r =
     ∙ ap (λ y. sets (packed w (take k xs)) (k * w) (littleEndian w y)) p
     ∙ sym (packed-more w xs k h room)
 
--- what is at one address more becomes one lane more
-pub read-more : (memory : List ℕ) (w : ℕ) (l : List ℤ) (k : ℕ) {a : ℤ} {lanes after : List ℕ} → k < length l → k * w + w ≤ 64
-    → a ≡ getD l k (pos 0) → lanes ≡ packed w (take k (fetchedAt memory w l)) → after ≡ sets lanes (k * w) (littleEndian w (valueAt memory (natural a) w))
-    → after ≡ packed w (take (k + 1) (fetchedAt memory w l))
-read-more memory w l k {a} h room p q r =
-    let f : ℤ → ℕ = λ a. valueAt memory (natural a) w in
-    packed-next w (map f l) k {x = f a} (omega (arith, length-map l f)) room (ap f p ∙ sym (map-at f l k h)) q r
-
--- .. until there are as many as addresses
-pub all-read : (memory : List ℕ) (w : ℕ) (l : List ℤ) (k : ℕ) → length l ≡ k → packed w (take k (fetchedAt memory w l)) ≡ packed w (fetchedAt memory w l)
-all-read memory w l k e = ap (packed w) (take-all k (fetchedAt memory w l) (omega (arith, length-map l (λ a. valueAt memory (natural a) w))))
-
 stored-snoc : (memory : List ℕ) (w : ℕ) (l : List ℤ) (xs : List ℕ) (a : ℤ) (x : ℕ) → length l ≡ length xs
     → storedAt memory w (l ++ (a ∷ [])) (xs ++ (x ∷ [])) ≡ sets (storedAt memory w l xs) (natural a) (littleEndian w x)
 unfolding storedAt
@@ -180,10 +160,6 @@ stored-snoc memory w [] [] a x e = refl
 stored-snoc memory w [] (y ∷ xs) a x e = absurd (omega arith)
 stored-snoc memory w (b ∷ l) [] a x e = absurd (omega arith)
 stored-snoc memory w (b ∷ l) (y ∷ xs) a x e = stored-snoc (sets memory (natural b) (littleEndian w y)) w l xs a x (omega arith)
-
-pub none-read : (memory : List ℕ) (w : ℕ) (a step : ℤ) (n : ℕ) → n ≡ 0 → packed w (fetchedAt memory w (progression a step n)) ≡ zeros 64
-unfolding progression
-none-read memory w a step n e = rw e (packed-none w)
 
 pub none-written : (memory : List ℕ) (w : ℕ) (a step : ℤ) (n : ℕ) (xs : List ℕ) → n ≡ 0 → storedAt memory w (progression a step n) xs ≡ memory
 unfolding progression storedAt
@@ -193,29 +169,29 @@ pub stored-none : (memory : List ℕ) (w : ℕ) (l : List ℤ) (xs : List ℕ) �
 unfolding storedAt
 stored-none memory w l xs = refl
 
--- one lane more is written to one address more
-module _ (memory : List ℕ) (w : ℕ) (l : List ℤ) (bytes : List ℕ) (n k : ℕ) (h : length l ≡ n) (m : k < n) {a : ℤ} {before after : List ℕ} where
-  pub stored-more : a ≡ getD l k (pos 0) → before ≡ storedAt memory w (take k l) (take k (lanesFrom bytes w 0 n))
-      → after ≡ sets before (natural a) (littleEndian w (valueAt bytes (k * w) w))
-      → after ≡ storedAt memory w (take (k + 1) l) (take (k + 1) (lanesFrom bytes w 0 n))
-  stored-more p q r =
-      let xs = lanesFrom bytes w 0 n in
-      let s : length xs ≡ n = length-lanes bytes w 0 n in
+-- one lane more, of those from byte s on, is written to one address more
+module _ (memory : List ℕ) (w : ℕ) (l : List ℤ) (bytes : List ℕ) (s n k : ℕ) (h : length l ≡ n) (m : k < n) {a : ℤ} {i : ℕ} {before after : List ℕ} where
+  pub stored-further : a ≡ getD l k (pos 0) → i ≡ s + k * w → before ≡ storedAt memory w (take k l) (take k (lanesFrom bytes w s n))
+      → after ≡ sets before (natural a) (littleEndian w (valueAt bytes i w))
+      → after ≡ storedAt memory w (take (k + 1) l) (take (k + 1) (lanesFrom bytes w s n))
+  stored-further p e q r =
+      let xs = lanesFrom bytes w s n in
+      let c : length xs ≡ n = length-lanes bytes w s n in
       r
-      ∙ ap (λ m. sets m (natural a) (littleEndian w (valueAt bytes (k * w) w))) q
-      ∙ ap (λ b. sets (storedAt memory w (take k l) (take k xs)) (natural b) (littleEndian w (valueAt bytes (k * w) w))) p
-      ∙ ap (λ x. sets (storedAt memory w (take k l) (take k xs)) (natural (getD l k (pos 0))) (littleEndian w x)) (sym (lane-at bytes w n k m))
+      ∙ ap (λ m. sets m (natural a) (littleEndian w (valueAt bytes i w))) q
+      ∙ ap (λ b. sets (storedAt memory w (take k l) (take k xs)) (natural b) (littleEndian w (valueAt bytes i w))) p
+      ∙ ap (λ x. sets (storedAt memory w (take k l) (take k xs)) (natural (getD l k (pos 0))) (littleEndian w x)) (ap (λ j. valueAt bytes j w) e ∙ sym (lane-from bytes w s n k m))
       ∙ sym
       (rw (add-one k, take-suc l k (pos 0) (omega arith), take-suc xs k 0 (omega arith))
       (stored-snoc memory w (take k l) (take k xs) (getD l k (pos 0)) (getD xs k 0)
       (length-take-le k l (omega arith) ∙ sym (length-take-le k xs (omega arith)))))
 
 -- .. until there are as many as addresses
-pub all-stored : (memory : List ℕ) (w : ℕ) (l : List ℤ) (bytes : List ℕ) (n k : ℕ) → length l ≡ n → k ≡ n
-    → storedAt memory w (take k l) (take k (lanesFrom bytes w 0 n)) ≡ storedAt memory w l (lanesFrom bytes w 0 n)
-all-stored memory w l bytes n k h e =
-    ap (λ m. storedAt memory w m (take k (lanesFrom bytes w 0 n))) (take-all k l (omega arith))
-    ∙ ap (storedAt memory w l) (take-all k (lanesFrom bytes w 0 n) (omega (arith, length-lanes bytes w 0 n)))
+pub all-stored-further : (memory : List ℕ) (w : ℕ) (l : List ℤ) (bytes : List ℕ) (s n k : ℕ) → length l ≡ n → k ≡ n
+    → storedAt memory w (take k l) (take k (lanesFrom bytes w s n)) ≡ storedAt memory w l (lanesFrom bytes w s n)
+all-stored-further memory w l bytes s n k h e =
+    ap (λ m. storedAt memory w m (take k (lanesFrom bytes w s n))) (take-all k l (omega arith))
+    ∙ ap (storedAt memory w l) (take-all k (lanesFrom bytes w s n) (omega (arith, length-lanes bytes w s n)))
 
 -- ---- a row side by side
 
@@ -267,21 +243,20 @@ module _ (len w : ℕ) (a step : ℤ) (n : ℕ) (h : 1 ≤ n) (e : step ≡ pos 
   row-is : progression a step n ≡ progression (pos (natural a)) (pos w) n
   row-is = ap (λ b. progression b step n) (upright a row-place) ∙ ap (λ s. progression (pos (natural a)) s n) e
 
-  -- .. is read by copying its bytes
-  pub row-read : (memory : List ℕ) → len ≡ length memory → Bytewise memory → n * w ≤ 64
-      → sets (zeros 64) 0 (take (n * w) (drop (natural a) memory)) ≡ packed w (fetchedAt memory w (progression a step n))
-  row-read memory m b q =
-      sym (packed-lanes w memory (natural a) n (λ p. b) (omega (arith, row-room)) q)
-      ∙ ap (packed w) (sym (ap (fetchedAt memory w) row-is ∙ fetched-row memory w (natural a) n))
+  -- .. its bytes are those of its lanes
+  pub row-bytes : (memory : List ℕ) → len ≡ length memory → Bytewise memory → take (n * w) (drop (natural a) memory) ≡ joined w (fetchedAt memory w (progression a step n))
+  row-bytes memory m b =
+      sym (joined-lanes w memory (natural a) n (λ p. b) (omega (arith, row-room)))
+      ∙ ap (joined w) (sym (ap (fetchedAt memory w) row-is ∙ fetched-row memory w (natural a) n))
 
-  -- .. and is written so
-  pub row-written : (memory bytes : List ℕ) → Bytewise bytes → n * w ≤ length bytes
-      → sets memory (natural a) (take (n * w) (drop 0 bytes)) ≡ storedAt memory w (progression a step n) (lanesFrom bytes w 0 n)
-  row-written memory bytes b q =
-      let xs = lanesFrom bytes w 0 n in
-      ap (sets memory (natural a)) (sym (joined-lanes w bytes 0 n (λ p. b) (omega arith)))
+  -- .. and lanes, from byte k on, are written so
+  pub row-written-from : (memory bytes : List ℕ) (k : ℕ) → Bytewise bytes → k + n * w ≤ length bytes
+      → sets memory (natural a) (take (n * w) (drop k bytes)) ≡ storedAt memory w (progression a step n) (lanesFrom bytes w k n)
+  row-written-from memory bytes k b q =
+      let xs = lanesFrom bytes w k n in
+      ap (sets memory (natural a)) (sym (joined-lanes w bytes k n (λ p. b) q))
       ∙ sym (stored-row memory w (natural a) xs)
-      ∙ ap (λ k. storedAt memory w (progression (pos (natural a)) (pos w) k) xs) (length-lanes bytes w 0 n)
+      ∙ ap (λ i. storedAt memory w (progression (pos (natural a)) (pos w) i) xs) (length-lanes bytes w k n)
       ∙ ap (λ l. storedAt memory w l xs) (sym row-is)
 
 -- ---- lanes combined

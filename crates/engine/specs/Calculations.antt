@@ -1,6 +1,6 @@
 -- A calculation on running registers, as its code takes it: the checks, then everything that moves.
 --
---   listedIn, lanesIn                 the addresses of an operand; the lanes that it gives as a source
+--   lanesIn                           the lanes that an operand gives as a source
 --   Fit                               what holds of a running register
 --   Within, Cleared                   operands that no check refused; what the checks found
 --   Carries                           the calculation carried out
@@ -13,10 +13,10 @@ use lib.IntN.{ℤ}
 use Rattle.codec.specs.declared.operation.Action.{Action}
 use Rattle.engine.specs.Lanes.{lane, lanewise}
 use Rattle.engine.specs.Memory.{lanesFrom, packed}
-use Rattle.engine.specs.Stretches.{allWithin, fetchedAt, storedAt}
+use Rattle.engine.specs.Stretches.{allWithin, fetchedAt, storedAt, Parts}
 use Rattle.engine.specs.Good.{IsWidth, Good}
 use Rattle.engine.specs.Registers.{isOpen}
-use Rattle.engine.specs.Runnings.{viewOf, Remembers, listed, Near, filledWith}
+use Rattle.engine.specs.Runnings.{viewOf, Remembers, listedIn, filledWith, afterwards}
 use Rattle.engine.specs.Operands.{Taken, whyOn}
 use Rattle.engine.specs.declared.check.Why.the-variants.{Nothing}
 use Rattle.engine.specs.declared.stream.Pattern.{Pattern}
@@ -25,12 +25,8 @@ use Rattle.engine.specs.declared.ahead.Ahead.{Ahead}
 use Rattle.engine.specs.declared.calculate.Checked.{Checked}
 use Rattle.engine.specs.declared.calculate.Outcome.{Outcome}
 
--- the addresses of an operand
-abbrev pub listedIn : Ahead → List ℤ → List ℤ
-listedIn o xs = listed (o .rowed) (o .start) (o .step) (o .count) xs
-
 -- the lanes that an operand gives as a source: those in memory, or the register's own
-abbrev pub lanesIn : ℕ → List ℕ → Ahead → List ℤ → List ℕ → List ℕ
+abbrev pub lanesIn : ℕ → List ℕ → Ahead → List (List ℤ) → List ℕ → List ℕ
 lanesIn width memory o xs lanes = cond (o .live) (fetchedAt memory width (listedIn o xs)) (lanesFrom lanes width 0 (o .count))
 
 -- what holds of a running register: it stands for a good one, and what it remembers is so
@@ -39,7 +35,7 @@ pub record Fit (vl : ℕ) (p : Pattern) (row : List ℕ) (q : Running) : Type 0 
   pub remembers : Remembers p row q
 
 -- operands that no check refused: one width, as many lanes, every element inside
-pub record Within (len width : ℕ) (x y z : Ahead) (xs ys zs : List ℤ) : Type 0 where
+pub record Within (len width : ℕ) (x y z : Ahead) (xs ys zs : List (List ℤ)) : Type 0 where
   pub wide : IsWidth width
   pub room : x .count * width ≤ 64
   pub counts : y .count ≡ x .count
@@ -49,11 +45,12 @@ pub record Within (len width : ℕ) (x y z : Ahead) (xs ys zs : List ℤ) : Type
   pub third : z .live ≡ true → allWithin len width (listedIn z zs) ≡ true
   pub firstLong : x .live ≡ true → length (listedIn x xs) ≡ x .count
   pub secondLong : y .live ≡ true → length (listedIn y ys) ≡ y .count
-  pub near : Near (x .start) (x .step) × (Near (y .start) (y .step) × Near (z .start) (z .step))
+  pub thirdLong : z .live ≡ true → length (listedIn z zs) ≡ z .count
+  pub parts : Parts (x .parts) xs × (Parts (y .parts) ys × Parts (z .parts) zs)
 
 -- what the checks found, on first source a, second source b and destination d: why the calculation is refused; if it is not, the three
 -- operands, with the rows of indices behind them
-pub record Cleared (vl len : ℕ) (same : Bool) (pa pb pd : Pattern) (a b d : Running) (va vb vd va' vb' vd' : List ℕ) (xs ys zs : List ℤ) (r : Checked) : Type 0 where
+pub record Cleared (vl len : ℕ) (same : Bool) (pa pb pd : Pattern) (a b d : Running) (va vb vd va' vb' vd' : List ℕ) (xs ys zs : List (List ℤ)) (r : Checked) : Type 0 where
   pub refused : (la lb ld memory : List ℕ) → length la ≡ 64 → length lb ≡ 64 → length ld ≡ 64 → length memory ≡ len
       → r .why ≡ whyOn vl memory (viewOf pa la va a) (viewOf pb lb vb b) (viewOf pd ld vd d)
   pub first : r .why ≡ Nothing → Taken pa va a (vl / a .width) (a .valid) va' xs (r .first)
@@ -64,15 +61,15 @@ pub record Cleared (vl len : ℕ) (same : Bool) (pa pb pd : Pattern) (a b d : Ru
   pub again : r .why ≡ Nothing → same ≡ true → (r .second ≡ r .first) × (listedIn (r .second) ys ≡ listedIn (r .first) xs)
 
 -- the lanes of the result
-abbrev pub outcomeOf : Action → ℕ → List ℕ → Ahead → Ahead → List ℤ → List ℤ → List ℕ → List ℕ → List ℕ
+abbrev pub outcomeOf : Action → ℕ → List ℕ → Ahead → Ahead → List (List ℤ) → List (List ℤ) → List ℕ → List ℕ → List ℕ
 outcomeOf action width memory x y xs ys la lb = lanewise (lane action (8 * width)) (lanesIn width memory x xs la) (lanesIn width memory y ys lb)
 
 -- the calculation carried out: the three registers with their lanes, and the memory
-pub record Carries (action : Action) (width : ℕ) (memory : List ℕ) (x y z : Ahead) (xs ys zs : List ℤ) (la lb ld : List ℕ) (r : Outcome) (la' lb' ld' memory' : List ℕ) : Type 0 where
-  pub read : r .first ≡ cond (x .live) (filledWith width (x .count) (x .after)) (x .after)
+pub record Carries (action : Action) (width : ℕ) (memory : List ℕ) (a b d : Running) (x y z : Ahead) (xs ys zs : List (List ℤ)) (la lb ld : List ℕ) (r : Outcome) (la' lb' ld' memory' : List ℕ) : Type 0 where
+  pub read : r .first ≡ cond (x .live) (filledWith width (x .count) (afterwards x a)) (afterwards x a)
   pub chunk : la' ≡ cond (x .live) (packed width (lanesIn width memory x xs la)) la
-  pub other : r .second ≡ cond (y .live) (filledWith width (y .count) (y .after)) (y .after)
+  pub other : r .second ≡ cond (y .live) (filledWith width (y .count) (afterwards y b)) (afterwards y b)
   pub otherChunk : lb' ≡ cond (y .live) (packed width (lanesIn width memory y ys lb)) lb
-  pub written : r .destination ≡ cond (z .live) (z .after) (filledWith width (x .count) (z .after))
+  pub written : r .destination ≡ cond (z .live) (afterwards z d) (filledWith width (x .count) (afterwards z d))
   pub content : ld' ≡ cond (z .live) ld (packed width (outcomeOf action width memory x y xs ys la lb))
   pub stored : memory' ≡ cond (z .live) (storedAt memory width (listedIn z zs) (outcomeOf action width memory x y xs ys la lb)) memory

@@ -3,7 +3,7 @@
 --   length-lanes    n lanes are n
 --   length-joined   lanes of w bytes, joined, are as many times w bytes
 --   zeros           n zeros
---   front, packed-is   at most 64 bytes, and zeros behind
+--   front, packed-is, packed-front   at most 64 bytes, and zeros behind
 --   joined-lanes, packed-lanes   the bytes of the lanes that bytes are
 --   lanes-packed    lanes put into a register's bytes are read back
 use Prim.Native.Nat.{ℕ, zero, suc, _+_, _-_, _*_, _^_, _≤_, _<_}
@@ -57,7 +57,7 @@ pub packed-is : (w : ℕ) (xs : List ℕ) → length xs * w ≤ 64 → packed w 
 packed-is w xs h = front (joined w xs) (omega (arith, length-joined w xs)) ∙ ap (λ n. joined w xs ++ zeros (64 - n)) (length-joined w xs)
 
 -- .. which is 64 zeros with the lanes' bytes in front
-packed-front : (w : ℕ) (xs : List ℕ) → length xs * w ≤ 64 → packed w xs ≡ sets (zeros 64) 0 (joined w xs)
+pub packed-front : (w : ℕ) (xs : List ℕ) → length xs * w ≤ 64 → packed w xs ≡ sets (zeros 64) 0 (joined w xs)
 packed-front w xs h =
     let n = length-joined w xs in
     let z : 0 + length (joined w xs) ≡ length (joined w xs) = omega arith in

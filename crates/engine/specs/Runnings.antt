@@ -5,26 +5,27 @@
 --   viewOf, bare                  the register that it stands for
 --   filledWith                    with another content
 --   Remembers                     what it remembers of the next element is so
---   alongBy, restingAt, turnedTo  after some elements of its row; after the last element of its row
---   listed                        the addresses of a chunk: a progression, or the front of an array
+--   behind, afterwards            behind a chunk
+--   listedIn                      the addresses of a chunk
+--   rowAhead, partOf              a chunk of the present row; a part
 --   Near, Looks                   a chunk looked at
 use Prim.Native.Nat.{ℕ, _+_, _≤_, _^_}
 use mathlib.Core.Path.{_≡_}
-use mathlib.Core.List.{List, []}
+use mathlib.Core.List.{List, [], _∷_}
 use mathlib.Core.Bool.{Bool, true, cond}
 use lib.ListN.{length, take, set}
 use lib.IntN.{ℤ, pos, natAbs, _+ℤ_, _*ℤ_}
 use Rattle.codec.specs.declared.amounts.Bytes.{Bytes}
-use Rattle.engine.specs.Addresses.{noBytes}
 use Rattle.engine.specs.Chunks.{chunk}
 use Rattle.engine.specs.Registers.{isOpen, noPattern, movedBy}
 use Rattle.engine.specs.Places.{Place, placeAt, inRow}
-use Rattle.engine.specs.Stretches.{progression, addressesOf}
+use Rattle.engine.specs.Stretches.{joinedIn, addressesOf}
 use Rattle.engine.specs.declared.stream.Pattern.{Pattern}
 use Rattle.engine.specs.declared.place.Spot.{Spot}
 use Rattle.engine.specs.declared.register.State.the-variants.{Open, Finished}
 use Rattle.engine.specs.declared.register.Register.{Register}
 use Rattle.engine.specs.declared.running.Running.{Running}
+use Rattle.engine.specs.declared.ahead.Ahead.{Ahead}
 
 -- the place in its row at which a running register stands
 abbrev pub placeOf : List ℕ → Running → Place
@@ -71,14 +72,36 @@ filledWith width n q = record {
 abbrev pub Remembers : Pattern → List ℕ → Running → Type 0
 Remembers p row q = isOpen (q .state) ≡ true → placeOf row q ≡ placeAt p (q .width) (set row 0 (q .index))
 
--- after n elements more of its row, where it stands at another of it
-abbrev pub alongBy : ℕ → Running → Running
-alongBy n q = record {
-  state = Open;
+-- behind a chunk that was looked at: open where the next element was found, or finished
+abbrev pub behind : Ahead → Running → Running
+behind o q = record {
+  state = cond (o .found) Open Finished;
   kind = q .kind;
   width = q .width;
   valid = q .valid;
-  moved = q .moved + n;
+  moved = q .moved + o .count;
+  height = o .height;
+  index = o .index;
+  address = o .address;
+  size = o .size;
+  step = o .step;
+}
+
+-- after it was taken as an operand: behind the chunk, if there is a stream
+abbrev pub afterwards : Ahead → Running → Running
+afterwards o q = cond (o .live) (behind o q) q
+
+-- the addresses of a chunk that was looked at: those of the first parts of an array
+abbrev pub listedIn : Ahead → List (List ℤ) → List ℤ
+listedIn o rows = joinedIn (take (o .parts) rows)
+
+-- the next n elements of the present row, as a chunk, where they do not end the row
+abbrev pub rowAhead : ℕ → Running → Ahead
+rowAhead n q = record {
+  live = true;
+  found = true;
+  count = n;
+  parts = 1;
   height = 1;
   index = q .index + n;
   address = record { 0 = q .address .0 +ℤ (q .step .0 *ℤ pos n) };
@@ -86,39 +109,9 @@ alongBy n q = record {
   step = q .step;
 }
 
--- open after n elements more, at innermost index i of a spot, with the flags' height
-abbrev pub restingAt : ℕ → ℕ → ℕ → Spot → Running → Running
-restingAt n h i s q = record {
-  state = Open;
-  kind = q .kind;
-  width = q .width;
-  valid = q .valid;
-  moved = q .moved + n;
-  height = h;
-  index = i;
-  address = s .address;
-  size = s .size;
-  step = s .step;
-}
-
--- after n elements more and a step out of a row: open where the next element was found, or finished
-abbrev pub turnedTo : ℕ → Bool → ℕ → ℕ → Spot → Running → Running
-turnedTo n found h i s q = cond found (restingAt n h i s q) (record {
-  state = Finished;
-  kind = q .kind;
-  width = q .width;
-  valid = q .valid;
-  moved = q .moved + n;
-  height = h;
-  index = 0;
-  address = noBytes;
-  size = 0;
-  step = noBytes;
-})
-
--- the addresses of a chunk: of a row a progression, else the first of an array
-abbrev pub listed : Bool → Bytes → Bytes → ℕ → List ℤ → List ℤ
-listed rowed start step n xs = cond rowed (progression (start .0) (step .0) n) (take n xs)
+-- a part of n elements
+abbrev pub partOf : Bytes → Bytes → ℕ → List ℤ
+partOf a step n = a .0 ∷ step .0 ∷ pos n ∷ []
 
 -- an address and a step far from overflowing
 abbrev pub Near : Bytes → Bytes → Type 0

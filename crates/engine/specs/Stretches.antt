@@ -1,16 +1,17 @@
 -- What is done at a list of addresses.
 --
 --   progression                          addresses a step apart
+--   addressesIn, joinedIn, Part, Parts   the addresses of a part of a chunk, of all its parts; parts that are far from overflowing
 --   addressesOf                          the addresses of elements
 --   allWithin, fetchedAt, storedAt       every address lies inside memory; the values there; memory after lanes were written there
 --   within-elements, fetched-elements, stored-elements   at the addresses of elements: what a calculation says of the elements
-use Prim.Native.Nat.{ℕ, zero, suc}
+use Prim.Native.Nat.{ℕ, zero, suc, _≤_, _<_, _^_}
 use mathlib.Core.Path.{_≡_, refl, ap}
-use mathlib.Core.List.{List, [], _∷_, map}
+use mathlib.Core.List.{List, [], _∷_, _++_, map}
 use mathlib.Core.Bool.{Bool, true, _&&_}
-use lib.ListN.{length}
+use lib.ListN.{length, getD}
 use lib.Seq.{sets}
-use lib.IntN.{ℤ, _+ℤ_}
+use lib.IntN.{ℤ, pos, natAbs, _+ℤ_}
 use Rattle.engine.specs.Loops.{natural}
 use Rattle.engine.specs.Addresses.{address, inside}
 use Rattle.engine.specs.Memory.{valueAt, littleEndian, spot, fetch, stored}
@@ -21,6 +22,27 @@ use Rattle.engine.specs.declared.stream.Pattern.{Pattern}
 unfoldable pub progression : ℤ → ℤ → ℕ → List ℤ
 progression a step zero = []
 progression a step (suc n) = a ∷ progression (a +ℤ step) step n
+
+-- the addresses of a part of a chunk, elements of one row, which is three numbers: its first address, its step and how many there are
+abbrev pub addressesIn : List ℤ → List ℤ
+addressesIn part = progression (getD part 0 (pos 0)) (getD part 1 (pos 0)) (natural (getD part 2 (pos 0)))
+
+-- the addresses of parts, one part after the other
+unfoldable pub joinedIn : List (List ℤ) → List ℤ
+joinedIn [] = []
+joinedIn (part ∷ rest) = addressesIn part ++ joinedIn rest
+
+-- a part that is far from overflowing
+pub record Part (part : List ℤ) : Type 0 where
+  pub start : natAbs (getD part 0 (pos 0)) ≤ 2 ^ 55
+  pub step : natAbs (getD part 1 (pos 0)) ≤ 2 ^ 51
+  pub count : natural (getD part 2 (pos 0)) ≤ 64
+  pub counted : getD part 2 (pos 0) ≡ pos (natural (getD part 2 (pos 0)))
+  pub three : length part ≡ 3
+
+-- the first m rows of an array are such parts
+abbrev pub Parts : ℕ → List (List ℤ) → Type 0
+Parts m rows = (m ≤ 64) × ((k : ℕ) → k < m → Part (getD rows k []))
 
 -- the addresses of elements, in their order
 abbrev pub addressesOf : Pattern → ℕ → List (List ℕ) → List ℤ

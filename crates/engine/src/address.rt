@@ -3,6 +3,7 @@ use crate::gain::gains;
 use codec::amounts::Bytes;
 use codec::amounts::Elements;
 use codec::operation::Parameter;
+ghost use mathlib.Core.Path.{_≡_};
 ghost use Prim.Native.Nat.{suc, _+_, _^_, _<_, _≤_};
 ghost use lib.ListN.{getD, drop};
 ghost use lib.IntN.{pos, natAbs, subℕ, _+ℤ_, _*ℤ_};
@@ -84,6 +85,9 @@ fn offset_at(shape: &[u64; 51], places: &[i64; 15], index: &[u64; 7], d: usize) 
     ensures { λ r. ⌜ Is (offsetAt (patternIn (now (shape .entry)) (now (places .entry))) d (drop (suc d) (now (index .entry)))) (2 ^ 36) (r .0) ⌝ }
 {
     let offset = Bytes(places[1 + d]);
+    if shape[48] == 0 {
+        return offset;
+    }
     let g = gains(shape, Parameter::Offset, index, d);
     bytes_moved(offset, change_of(g.up, g.down))
 }
@@ -99,6 +103,9 @@ pub(crate) fn stride_at(
     ensures { λ r. ⌜ Is (strideAt (patternIn (now (shape .entry)) (now (places .entry))) d (drop (suc d) (now (index .entry)))) (2 ^ 36) (r .0) ⌝ }
 {
     let stride = Elements(places[8 + d]);
+    if shape[48] == 0 {
+        return stride;
+    }
     let g = gains(shape, Parameter::Stride, index, d);
     elements_moved(stride, change_of(g.up, g.down))
 }
@@ -114,12 +121,34 @@ fn term(shape: &[u64; 51], places: &[i64; 15], width: u64, index: &[u64; 7], d: 
     offset_and_stride(offset, stride, i, width)
 }
 
+// The address of the element at the indices `index`, where there is no modifier.
+fn plain_address(shape: &[u64; 51], places: &[i64; 15], width: u64, index: &[u64; 7]) -> Bytes
+    requires { ⌜ RangedPattern (patternIn (now shape) (now places)) × (width ≤ 8) × Small (now index) × (getD (now shape) 48 0 ≡ 0) ⌝ }
+    ensures { λ r. ⌜ Is (Rattle.engine.specs.Addresses.address (patternIn (now (shape .entry)) (now (places .entry))) width (now (index .entry))) (2 ^ 55) (r .0) ⌝ }
+{
+    let n = shape[7] as usize;
+    let mut sum = Bytes(places[0]);
+    let mut d = 0;
+    while d < n {
+        let offset = Bytes(places[1 + d]);
+        let stride = Elements(places[8 + d]);
+        let i = index[d];
+        let t = offset_and_stride(offset, stride, i, width);
+        sum = plus(sum, t);
+        d += 1;
+    }
+    sum
+}
+
 // The address of the element at the indices `index`, of the pattern in two rows: base + the sum over dimensions of (offset + stride x
 // index x width).
 pub(crate) fn address(shape: &[u64; 51], places: &[i64; 15], width: u64, index: &[u64; 7]) -> Bytes
     requires { ⌜ RangedPattern (patternIn (now shape) (now places)) × (width ≤ 8) × Small (now index) ⌝ }
     ensures { λ r. ⌜ Is (Rattle.engine.specs.Addresses.address (patternIn (now (shape .entry)) (now (places .entry))) width (now (index .entry))) (2 ^ 55) (r .0) ⌝ }
 {
+    if shape[48] == 0 {
+        return plain_address(shape, places, width, index);
+    }
     let n = shape[7] as usize;
     let mut sum = Bytes(places[0]);
     let mut d = 0;

@@ -1,34 +1,34 @@
-// The next chunk of a stream, looked at: how many elements, where they lie, and the register after it. No memory is touched, so that
-// a refusal has nothing to undo.
+// The next chunk of a stream, looked at: how many elements, where they lie, and where the stream stands behind it. No memory is touched,
+// so that a refusal has nothing to undo.
 use crate::address::plus;
+use crate::address::times;
 use crate::leave::leave_row;
-use crate::place::Spot;
 use crate::running::Running;
-use crate::running::along;
-use crate::running::resting;
-use crate::running::turned;
 use codec::amounts::Bytes;
 ghost use mathlib.Core.Path.{_≡_};
 ghost use mathlib.Core.List.{[]};
-ghost use mathlib.Core.Bool.{true, false, cond, _&&_};
-ghost use Prim.Native.Nat.{_+_, _≤_, _<_, _^_};
-ghost use lib.Dec.{eqb, ltb};
-ghost use lib.ListN.{length, set};
-ghost use Rattle.engine.specs.Registers.{isOpen};
+ghost use mathlib.Core.Bool.{true, false, _&&_};
+ghost use Prim.Native.Nat.{_+_, _≤_, _<_};
+ghost use lib.Dec.{ltb};
+ghost use lib.ListN.{length, set, take};
 ghost use Rattle.engine.specs.Places.{placeAt, stopsAt, Ready};
-ghost use Rattle.engine.specs.Stretches.{progression};
+ghost use Rattle.engine.specs.Stretches.{joinedIn, Parts};
 ghost use Rattle.engine.specs.Rows.{shapeIn, patternIn};
-ghost use Rattle.engine.specs.Runnings.{placeOf, viewOf, Remembers, Near, alongBy, listed, Looks};
+ghost use Rattle.engine.specs.Runnings.{placeOf, viewOf, Near, behind, rowAhead, partOf, Looks};
 
-// A chunk that was looked at: whether there is a stream at all, how many elements, and the register after them. Elements of one row
-// are a start and a step (`rowed`); else their addresses are the first of an array.
+// A chunk that was looked at: whether there is a stream at all, how many elements, and in how many parts. A part is elements of one row,
+// three numbers of an array: the first address, the step and how many. Then where the stream stands behind the chunk: whether there is an
+// element, the height of the flags, the innermost index, and what a running register remembers of it.
 pub(crate) struct Ahead {
     pub live: bool,
-    pub rowed: bool,
+    pub found: bool,
     pub count: usize,
-    pub start: Bytes,
+    pub parts: usize,
+    pub height: u64,
+    pub index: u64,
+    pub address: Bytes,
+    pub size: u64,
     pub step: Bytes,
-    pub after: Running,
 }
 
 // Whether a chunk ends where the walk goes on.
@@ -44,159 +44,131 @@ fn stops(shape: &[u64; 51], found: bool, height: u64) -> bool
     shape[50] < height
 }
 
+// How many elements a part has: as many as are wanted and left of the row; one, where the chunk ends with each.
+fn part_size(through: bool, left: u64, wanted: u64) -> u64
+    requires { ⌜ (1 ≤ left) × (1 ≤ wanted) ⌝ }
+    ensures { λ n. ⌜ ((1 ≤ n) × ((n ≤ left) × (n ≤ wanted))) × (through ≡ false → n ≡ 1) ⌝ }
+{
+    if !through {
+        return 1;
+    }
+    if wanted < left {
+        return wanted;
+    }
+    left
+}
+
 // Whether the walk goes on along its row, and the chunk with it.
 fn along_row(through: bool, i: u64, size: u64) -> bool
-    requires { ⌜ i ≤ 4096 ⌝ }
-    ensures { λ q. ⌜ q ≡ (through && ltb (i + 1) size) ⌝ }
+    ensures { λ q. ⌜ q ≡ (through && ltb i size) ⌝ }
 {
     if through {
-        return i + 1 < size;
+        return i < size;
     }
     false
 }
 
-// A chunk of one row.
-fn of_row(r: Running, n: usize, after: Running) -> Ahead
-    ensures { λ o. ⌜ o ≡ record { live = true; rowed = true; count = n; start = r .address; step = r .step; after = after } ⌝ }
+// Whether the next elements, so many, are of the present row and do not end it.
+pub(crate) fn stays(r: Running, most: usize, shape: &[u64; 51]) -> bool
+    requires { ⌜ (most ≤ 64) × (r .index ≤ 4096) ⌝ }
+    ensures { λ q. ⌜ (q ≡ true → (stopsAt (shapeIn (now (shape .entry)) .coupling) true 1 ≡ false) × ((1 ≤ most) × (r .index + most < r .size))) ⌝ }
 {
-    let start = r.address;
+    if stops(shape, true, 1) {
+        return false;
+    }
+    if most == 0 {
+        return false;
+    }
+    r.index + (most as u64) < r.size
+}
+
+// The next elements, so many of the present row, which they do not end.
+pub(crate) fn in_row(r: Running, n: usize, parts: &mut [[i64; 3]; 64]) -> Ahead
+    requires { ⌜ (Near (r .address) (r .step) × ((n ≤ 64) × (r .index ≤ 4096))) × (length (now parts) ≡ 64) ⌝ }
+    ensures { λ o. ⌜ o ≡ rowAhead n r ⌝ }
+    ensures { λ _. ⌜ now (parts .exit) ≡ set (now (parts .entry)) 0 (partOf (r .address) (r .step) n) ⌝ }
+{
+    let from = r.address;
     let step = r.step;
+    parts[0] = [from.0, step.0, n as i64];
     Ahead {
         live: true,
-        rowed: true,
+        found: true,
         count: n,
-        start,
+        parts: 1,
+        height: 1,
+        index: r.index + (n as u64),
+        address: plus(from, times(step, n as u64)),
+        size: r.size,
         step,
-        after,
     }
 }
 
-// A chunk of a row that ends before the row does.
-fn in_row(r: Running, n: usize) -> Ahead
-    requires { ⌜ Near (r .address) (r .step) × ((n ≤ 64) × ((r .index ≤ 4096) × (r .moved < 2 ^ 32))) ⌝ }
-    ensures { λ o. ⌜ o ≡ record { live = true; rowed = true; count = n; start = r .address; step = r .step; after = cond (eqb n 0) r (alongBy n r) } ⌝ }
-{
-    if n == 0 {
-        return of_row(r, n, r);
-    }
-    of_row(r, n, along(r, n as u64))
-}
-
-// A chunk of a row up to its end: the last element's step leads out of it.
-fn to_row_end(
-    r: Running,
-    n: usize,
-    shape: &[u64; 51],
-    places: &[i64; 15],
-    index: &mut [u64; 7],
-) -> Ahead
-    requires { ⌜ Ready (viewOf (patternIn (now shape) (now places)) [] (now index) r) × (placeOf (now index) r ≡ placeAt (patternIn (now shape) (now places)) (r .width) (set (now index) 0 (r .index))) ⌝ }
-    requires { ⌜ ((1 ≤ n) × (n ≤ 64)) × ((r .index + n ≡ r .size) × (stopsAt (shapeIn (now shape) .coupling) true 1 ≡ false)) ⌝ }
-    ensures { λ o. ⌜ (o .live ≡ true) × (Near (o .start) (o .step) × Looks (patternIn (now (shape .entry)) (now (places .entry))) (now (index .entry)) r n (o .count) (progression (o .start .0) (o .step .0) (o .count)) (now (index .exit)) (o .after)) ⌝ }
-    ensures { λ o. ⌜ o .rowed ≡ true ⌝ }
-{
-    index[0] = r.size - 1;
-    let t = leave_row(shape, places, r.width, index);
-    let after = turned(r, n as u64, t, index[0]);
-    of_row(r, n, after)
-}
-
-// A chunk that may cross rows, element by element. Along a row only the innermost index and the address move; the seven indices are
+// A chunk of at most so many elements, part by part. Along a row only the innermost index and the address move; the seven indices are
 // looked at where a row ends.
-fn across(
+pub(crate) fn across(
     r: Running,
     most: usize,
     shape: &[u64; 51],
     places: &[i64; 15],
     index: &mut [u64; 7],
-    addresses: &mut [i64; 64],
+    parts: &mut [[i64; 3]; 64],
 ) -> Ahead
     requires { ⌜ Ready (viewOf (patternIn (now shape) (now places)) [] (now index) r) × (placeOf (now index) r ≡ placeAt (patternIn (now shape) (now places)) (r .width) (set (now index) 0 (r .index))) ⌝ }
-    requires { ⌜ (most ≤ 64) × (length (now addresses) ≡ 64) ⌝ }
-    ensures { λ o. ⌜ (o .live ≡ true) × (Near (o .start) (o .step) × Looks (patternIn (now (shape .entry)) (now (places .entry))) (now (index .entry)) r most (o .count) (listed (o .rowed) (o .start) (o .step) (o .count) (now (addresses .exit))) (now (index .exit)) (o .after)) ⌝ }
-    ensures { λ _. ⌜ length (now (addresses .exit)) ≡ 64 ⌝ }
+    requires { ⌜ (most ≤ 64) × (length (now parts) ≡ 64) ⌝ }
+    ensures { λ o. ⌜ (o .live ≡ true) × (Parts (o .parts) (now (parts .exit)) × Looks (patternIn (now (shape .entry)) (now (places .entry))) (now (index .entry)) r most (o .count) (joinedIn (take (o .parts) (now (parts .exit)))) (now (index .exit)) (behind o r)) ⌝ }
+    ensures { λ _. ⌜ length (now (parts .exit)) ≡ 64 ⌝ }
 {
-    let width = r.width;
-    let start = r.address;
-    let step = r.step;
     let through = !stops(shape, true, 1);
     let mut i = r.index;
-    let mut address = start;
+    let mut address = r.address;
     let mut size = r.size;
-    let mut by = step;
+    let mut step = r.step;
     let mut height = r.height;
-    let mut k = 0;
-    while k < most {
-        let a = address.0;
-        addresses[k] = a;
-        k += 1;
+    let mut count: usize = 0;
+    let mut m: usize = 0;
+    while count < most {
+        let n = part_size(through, size - i, (most - count) as u64);
+        parts[m] = [address.0, step.0, n as i64];
+        m += 1;
+        count += n as usize;
+        i += n;
         if along_row(through, i, size) {
-            i += 1;
-            address = plus(address, by);
+            address = plus(address, times(step, n));
             height = 1;
             continue;
         }
-        index[0] = i;
-        let t = leave_row(shape, places, width, index);
-        i = index[0];
-        if stops(shape, t.found, t.height) {
-            let after = turned(r, k as u64, t, i);
-            return Ahead {
-                live: true,
-                rowed: false,
-                count: k,
-                start,
-                step,
-                after,
-            };
-        }
+        index[0] = i - 1;
+        let t = leave_row(shape, places, r.width, index);
         let spot = t.spot;
+        i = index[0];
         address = spot.address;
         size = spot.size;
-        by = spot.step;
+        step = spot.step;
         height = t.height;
-    }
-    let spot = Spot {
-        address,
-        size,
-        step: by,
-    };
-    let after = resting(r, k as u64, height, i, spot);
-    Ahead {
-        live: true,
-        rowed: false,
-        count: k,
-        start,
-        step,
-        after,
-    }
-}
-
-// The next chunk of an open stream, at most so many elements.
-pub(crate) fn look_ahead(
-    r: Running,
-    most: usize,
-    shape: &[u64; 51],
-    places: &[i64; 15],
-    index: &mut [u64; 7],
-    addresses: &mut [i64; 64],
-) -> Ahead
-    requires { ⌜ Ready (viewOf (patternIn (now shape) (now places)) [] (now index) r) × (Remembers (patternIn (now shape) (now places)) (now index) r × (isOpen (r .state) ≡ true)) ⌝ }
-    requires { ⌜ (most ≤ 64) × (length (now addresses) ≡ 64) ⌝ }
-    ensures { λ o. ⌜ (o .live ≡ true) × (Near (o .start) (o .step) × Looks (patternIn (now (shape .entry)) (now (places .entry))) (now (index .entry)) r most (o .count) (listed (o .rowed) (o .start) (o .step) (o .count) (now (addresses .exit))) (now (index .exit)) (o .after)) ⌝ }
-    ensures { λ _. ⌜ length (now (addresses .exit)) ≡ 64 ⌝ }
-{
-    if stops(shape, true, 1) {
-        return across(r, most, shape, places, index, addresses);
-    }
-    let end = r.index + (most as u64);
-    if end < r.size {
-        return in_row(r, most);
-    }
-    if end == r.size {
-        if 0 < most {
-            return to_row_end(r, most, shape, places, index);
+        if stops(shape, t.found, height) {
+            return Ahead {
+                live: true,
+                found: t.found,
+                count,
+                parts: m,
+                height,
+                index: i,
+                address,
+                size,
+                step,
+            };
         }
     }
-    across(r, most, shape, places, index, addresses)
+    Ahead {
+        live: true,
+        found: true,
+        count,
+        parts: m,
+        height,
+        index: i,
+        address,
+        size,
+        step,
+    }
 }

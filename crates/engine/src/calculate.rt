@@ -1,30 +1,34 @@
 // One calculation on three running registers and a lent memory: every check first, then everything moves.
 use crate::ahead::Ahead;
 use crate::check::Why;
-use crate::operand::as_operand;
+use crate::operand::after_read;
+use crate::operand::after_write;
+use crate::operand::as_destination;
+use crate::operand::as_source;
 use crate::operand::outside;
-use crate::operand::read_on;
-use crate::operand::second_operand;
+use crate::operand::second_outside;
+use crate::operand::second_source;
 use crate::operand::unmoved;
-use crate::operand::write_on;
 use crate::running::Running;
 use crate::states::why_states;
 use crate::states::widths_differ;
 use crate::transfer::combine_lanes;
 use crate::transfer::look_at;
+use crate::transfer::read_parts;
+use crate::transfer::write_parts;
 use codec::operation::Action;
 use codec::refusal::Refusal;
 ghost use mathlib.Core.Path.{_≡_};
-ghost use mathlib.Core.Bool.{true, not, cond, _&&_, _||_};
-ghost use Prim.Native.Nat.{_*_, _/_, _≤_, _<_};
+ghost use mathlib.Core.Bool.{true, false, not, cond, _&&_, _||_};
+ghost use Prim.Native.Nat.{_+_, _*_, _/_, _^_, _≤_, _<_};
 ghost use lib.ListN.{length};
 ghost use lib.Dec.{eqb, ltb};
 ghost use Rattle.engine.specs.Good.{IsWidth};
 ghost use Rattle.engine.specs.Rows.{patternAt};
-ghost use Rattle.engine.specs.Memory.{packed};
-ghost use Rattle.engine.specs.Stretches.{allWithin, fetchedAt};
-ghost use Rattle.engine.specs.Runnings.{Near, filledWith};
-ghost use Rattle.engine.specs.Calculations.{listedIn, Fit, Within, Cleared, Carries};
+ghost use Rattle.engine.specs.Memory.{lanesFrom, packed};
+ghost use Rattle.engine.specs.Stretches.{allWithin, fetchedAt, storedAt, Parts};
+ghost use Rattle.engine.specs.Runnings.{listedIn};
+ghost use Rattle.engine.specs.Calculations.{Fit, Within, Cleared, Carries};
 
 // What the checks found: why the calculation is refused, if it is; the three operands, if it is not.
 pub(crate) struct Checked {
@@ -42,10 +46,10 @@ pub(crate) struct Outcome {
 }
 
 // A refused calculation.
-fn refused(why: Why, a: Running) -> Checked
+fn refused(why: Why) -> Checked
     ensures { λ r. ⌜ r .why ≡ why ⌝ }
 {
-    let none = unmoved(a, 0);
+    let none = unmoved(0);
     Checked {
         why,
         first: none,
@@ -92,52 +96,40 @@ pub(crate) fn check_calculation(
     va: &mut [u64; 7],
     vb: &mut [u64; 7],
     vd: &mut [u64; 7],
-    xs: &mut [i64; 64],
-    ys: &mut [i64; 64],
-    zs: &mut [i64; 64],
+    xs: &mut [[i64; 3]; 64],
+    ys: &mut [[i64; 3]; 64],
+    zs: &mut [[i64; 3]; 64],
 ) -> Checked
     requires { ⌜ ((8 ≤ vl) × (vl ≤ 64)) × ((i < 32) × ((j < 32) × (t < 32))) ⌝ }
     requires { ⌜ (length (now xs) ≡ 64) × ((length (now ys) ≡ 64) × (length (now zs) ≡ 64)) ⌝ }
     requires { ⌜ Fit vl (patternAt (now shapes) (now places) i) (now va) a × (Fit vl (patternAt (now shapes) (now places) j) (now vb) b × Fit vl (patternAt (now shapes) (now places) t) (now vd) d) ⌝ }
     requires { ⌜ (same ≡ true → (b ≡ a) × ((j ≡ i) × (now vb ≡ now va))) ⌝ }
-    ensures { λ r. ⌜ Cleared vl len same (patternAt (now (shapes .entry)) (now (places .entry)) i) (patternAt (now (shapes .entry)) (now (places .entry)) j) (patternAt (now (shapes .entry)) (now (places .entry)) t) a b d (now (va .entry)) (now (vb .entry)) (now (vd .entry)) (now (va .exit)) (now (vb .exit)) (now (vd .exit)) (now (xs .exit)) (now (ys .exit)) (now (zs .exit)) r ⌝ }
+    ensures { λ r. ⌜ Cleared vl len same (patternAt (now (shapes .entry)) (now (places .entry)) i) (patternAt (now (shapes .entry)) (now (places .entry)) j) (patternAt (now (shapes .entry)) (now (places .entry)) t) a b d (now (va .entry)) (now (vb .entry)) (now (vd .entry)) (now (va .exit)) (now (vb .exit)) (now (vd .exit)) (now (xs .exit)) (cond same (now (xs .exit)) (now (ys .exit))) (now (zs .exit)) r ⌝ }
     ensures { λ _. ⌜ (length (now (xs .exit)) ≡ 64) × ((length (now (ys .exit)) ≡ 64) × (length (now (zs .exit)) ≡ 64)) ⌝ }
 {
     let why = why_states(a, b, d);
     let Why::Nothing = why else {
-        return refused(why, a);
+        return refused(why);
     };
     if widths_differ(a, b, d) {
-        return refused(Why::Because(Refusal::Widths), a);
+        return refused(Why::Because(Refusal::Widths));
     }
     let most = lanes(vl, a.width);
-    let x = as_operand(a, most, a.valid as usize, &shapes[i], &places[i], va, xs);
+    let x = as_source(a, most, &shapes[i], &places[i], va, xs);
     let n = x.count;
-    let y = second_operand(
-        same,
-        x,
-        va,
-        xs,
-        b,
-        most,
-        b.valid as usize,
-        &shapes[j],
-        &places[j],
-        vb,
-        ys,
-    );
-    let z = as_operand(d, n, n, &shapes[t], &places[t], vd, zs);
+    let y = second_source(same, x, va, xs, b, most, &shapes[j], &places[j], vb, ys);
+    let z = as_destination(d, n, &shapes[t], &places[t], vd, zs);
     if lanes_differ(n, y.count, z) {
-        return refused(Why::Because(Refusal::LaneCounts), a);
+        return refused(Why::Because(Refusal::LaneCounts));
     }
     if outside(x, a.width, len, xs) {
-        return refused(Why::Because(Refusal::Outside), a);
+        return refused(Why::Because(Refusal::Outside));
     }
-    if outside(y, b.width, len, ys) {
-        return refused(Why::Because(Refusal::Outside), a);
+    if second_outside(same, y, b.width, len, ys) {
+        return refused(Why::Because(Refusal::Outside));
     }
     if outside(z, d.width, len, zs) {
-        return refused(Why::Because(Refusal::Outside), a);
+        return refused(Why::Because(Refusal::Outside));
     }
     Checked {
         why: Why::Nothing,
@@ -147,28 +139,60 @@ pub(crate) fn check_calculation(
     }
 }
 
+// A source read: the chunk of an open stream becomes its lanes.
+fn read_source(o: Ahead, width: u64, memory: &[u8], parts: &[[i64; 3]; 64], lanes: &mut [u8; 64])
+    requires { ⌜ ((1 ≤ width) × (width ≤ 8)) × (o .live ≡ true → (length (listedIn o (now parts)) * width ≤ 64) × Parts (o .parts) (now parts)) ⌝ }
+    requires { ⌜ (o .live ≡ true → allWithin (length (now memory)) width (listedIn o (now parts)) ≡ true) ⌝ }
+    ensures { λ _. ⌜ now (lanes .exit) ≡ cond (o .live) (packed width (fetchedAt (now (memory .entry)) width (listedIn o (now (parts .entry))))) (now (lanes .entry)) ⌝ }
+{
+    if o.live {
+        read_parts(memory, parts, o.parts, width, lanes);
+    }
+}
+
 // The second source read: the first once more if it is the same register.
 fn read_second(
     same: bool,
-    first: Running,
     la: &[u8; 64],
     o: Ahead,
     width: u64,
     memory: &[u8],
-    addresses: &[i64; 64],
+    parts: &[[i64; 3]; 64],
     lanes: &mut [u8; 64],
-) -> Running
-    requires { ⌜ ((1 ≤ width) × (width ≤ 8)) × ((o .count * width ≤ 64) × Near (o .start) (o .step)) ⌝ }
-    requires { ⌜ (o .live ≡ true → allWithin (length (now memory)) width (listedIn o (now addresses)) ≡ true) ⌝ }
-    requires { ⌜ (same ≡ true → (first ≡ cond (o .live) (filledWith width (o .count) (o .after)) (o .after)) × (now la ≡ cond (o .live) (packed width (fetchedAt (now memory) width (listedIn o (now addresses)))) (now lanes))) ⌝ }
-    ensures { λ q. ⌜ q ≡ cond (o .live) (filledWith width (o .count) (o .after)) (o .after) ⌝ }
-    ensures { λ _. ⌜ now (lanes .exit) ≡ cond (o .live) (packed width (fetchedAt (now (memory .entry)) width (listedIn o (now (addresses .entry))))) (now (lanes .entry)) ⌝ }
+)
+    requires { ⌜ ((1 ≤ width) × (width ≤ 8)) × (same ≡ false → o .live ≡ true → (length (listedIn o (now parts)) * width ≤ 64) × Parts (o .parts) (now parts)) ⌝ }
+    requires { ⌜ (same ≡ false → o .live ≡ true → allWithin (length (now memory)) width (listedIn o (now parts)) ≡ true) ⌝ }
+    ensures { λ _. ⌜ now (lanes .exit) ≡ cond same (now (la .entry)) (cond (o .live) (packed width (fetchedAt (now (memory .entry)) width (listedIn o (now (parts .entry))))) (now (lanes .entry))) ⌝ }
 {
     if same {
         *lanes = *la;
-        return first;
+        return;
     }
-    read_on(o, width, memory, addresses, lanes)
+    if o.live {
+        read_parts(memory, parts, o.parts, width, lanes);
+    }
+}
+
+// A destination written: lanes go to memory if it is an open stream; else they are the register's content.
+fn write_destination(
+    o: Ahead,
+    width: u64,
+    n: usize,
+    out: &[u8; 64],
+    memory: &mut [u8],
+    parts: &[[i64; 3]; 64],
+    lanes: &mut [u8; 64],
+)
+    requires { ⌜ ((1 ≤ width) × (width ≤ 8)) × (n * width ≤ 64) ⌝ }
+    requires { ⌜ (o .live ≡ true → ((length (listedIn o (now parts)) ≡ n) × Parts (o .parts) (now parts)) × (allWithin (length (now memory)) width (listedIn o (now parts)) ≡ true)) ⌝ }
+    ensures { λ _. ⌜ now (lanes .exit) ≡ cond (o .live) (now (lanes .entry)) (now (out .entry)) ⌝ }
+    ensures { λ _. ⌜ now (memory .exit) ≡ cond (o .live) (storedAt (now (memory .entry)) width (listedIn o (now (parts .entry))) (lanesFrom (now (out .entry)) width 0 n)) (now (memory .entry)) ⌝ }
+{
+    if !o.live {
+        *lanes = *out;
+        return;
+    }
+    write_parts(memory, parts, o.parts, width, out);
 }
 
 // Everything moves: both sources are read, the lanes are calculated and written, in this order.
@@ -176,32 +200,36 @@ pub(crate) fn carry_out(
     action: Action,
     same: bool,
     width: u64,
+    a: Running,
+    b: Running,
+    d: Running,
     x: Ahead,
     y: Ahead,
     z: Ahead,
-    xs: &[i64; 64],
-    ys: &[i64; 64],
-    zs: &[i64; 64],
+    xs: &[[i64; 3]; 64],
+    ys: &[[i64; 3]; 64],
+    zs: &[[i64; 3]; 64],
     la: &mut [u8; 64],
     lb: &mut [u8; 64],
     ld: &mut [u8; 64],
     memory: &mut [u8],
 ) -> Outcome
-    requires { ⌜ Within (length (now memory)) width x y z (now xs) (now ys) (now zs) ⌝ }
-    requires { ⌜ (same ≡ true → (y ≡ x) × ((listedIn y (now ys) ≡ listedIn x (now xs)) × (now lb ≡ now la))) ⌝ }
-    ensures { λ r. ⌜ Carries action width (now (memory .entry)) x y z (now (xs .entry)) (now (ys .entry)) (now (zs .entry)) (now (la .entry)) (now (lb .entry)) (now (ld .entry)) r (now (la .exit)) (now (lb .exit)) (now (ld .exit)) (now (memory .exit)) ⌝ }
+    requires { ⌜ Within (length (now memory)) width x y z (now xs) (cond same (now xs) (now ys)) (now zs) ⌝ }
+    requires { ⌜ (x .live ≡ true → a .moved + x .count < 2 ^ 32) × ((y .live ≡ true → b .moved + y .count < 2 ^ 32) × (z .live ≡ true → d .moved + z .count < 2 ^ 32)) ⌝ }
+    requires { ⌜ (same ≡ true → (y ≡ x) × (now lb ≡ now la)) ⌝ }
+    ensures { λ r. ⌜ Carries action width (now (memory .entry)) a b d x y z (now (xs .entry)) (cond same (now (xs .entry)) (now (ys .entry))) (now (zs .entry)) (now (la .entry)) (now (lb .entry)) (now (ld .entry)) r (now (la .exit)) (now (lb .exit)) (now (ld .exit)) (now (memory .exit)) ⌝ }
 {
     let n = x.count;
-    let first = read_on(x, width, memory, xs, la);
-    let second = read_second(same, first, la, y, width, memory, ys, lb);
+    read_source(x, width, memory, xs, la);
+    read_second(same, la, y, width, memory, ys, lb);
     let one = look_at(la);
     let other = look_at(lb);
     let mut out = [0u8; 64];
     combine_lanes(action, width, n, la, lb, &mut out);
-    let destination = write_on(z, width, n, &out, memory, zs, ld);
+    write_destination(z, width, n, &out, memory, zs, ld);
     Outcome {
-        first,
-        second,
-        destination,
+        first: after_read(a, x, width),
+        second: after_read(b, y, width),
+        destination: after_write(d, z, width, n),
     }
 }

@@ -38,9 +38,9 @@ pub(crate) fn execute(
     let mut lanes = [[0u8; 64]; 32];
     let mut indices = [[0u64; 7]; 32];
     let mut all = lay_out(m, &mut shapes, &mut places, &mut lanes, &mut indices);
-    let mut xs = [0i64; 64];
-    let mut ys = [0i64; 64];
-    let mut zs = [0i64; 64];
+    let mut xs = [[0i64; 3]; 64];
+    let mut ys = [[0i64; 3]; 64];
+    let mut zs = [[0i64; 3]; 64];
     let mut passes = 0;
     let mut calculations = 0;
     let looped = all[register];
@@ -101,6 +101,9 @@ pub(crate) fn execute(
                 action,
                 i == j,
                 a.width,
+                a,
+                b,
+                d,
                 first,
                 second,
                 destination,

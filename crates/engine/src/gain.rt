@@ -28,7 +28,7 @@ fn stands_for(code: u64, q: Parameter) -> bool
 
 // What the modifiers in a row move parameter `q` of dimension `d` by, at the indices `index`: up by those that add, down by those that
 // subtract.
-fn all_gains(shape: &[u64; 51], q: Parameter, index: &[u64; 7], d: usize) -> UpDown
+pub(crate) fn gains(shape: &[u64; 51], q: Parameter, index: &[u64; 7], d: usize) -> UpDown
     requires { ⌜ Ranged (shapeIn (now shape)) × ((k : ℕ) → getD (now index) k 0 ≤ 4096) ⌝ }
     ensures { λ r. ⌜ (r .up ≡ gain q Add d (drop (suc d) (now (index .entry))) (modifiersOf (shapeIn (now (shape .entry))))) × (r .down ≡ gain q Subtract d (drop (suc d) (now (index .entry))) (modifiersOf (shapeIn (now (shape .entry))))) × (r .up ≤ 34359738368) × (r .down ≤ 34359738368) ⌝ }
 {
@@ -56,15 +56,4 @@ fn all_gains(shape: &[u64; 51], q: Parameter, index: &[u64; 7], d: usize) -> UpD
         k += 1;
     }
     UpDown { up, down }
-}
-
-// The same, at once where there is no modifier.
-pub(crate) fn gains(shape: &[u64; 51], q: Parameter, index: &[u64; 7], d: usize) -> UpDown
-    requires { ⌜ Ranged (shapeIn (now shape)) × ((k : ℕ) → getD (now index) k 0 ≤ 4096) ⌝ }
-    ensures { λ r. ⌜ (r .up ≡ gain q Add d (drop (suc d) (now (index .entry))) (modifiersOf (shapeIn (now (shape .entry))))) × (r .down ≡ gain q Subtract d (drop (suc d) (now (index .entry))) (modifiersOf (shapeIn (now (shape .entry))))) × (r .up ≤ 34359738368) × (r .down ≤ 34359738368) ⌝ }
-{
-    if shape[48] == 0 {
-        return UpDown { up: 0, down: 0 };
-    }
-    all_gains(shape, q, index, d)
 }

@@ -1,108 +1,142 @@
-// The registers of a calculation as operands: looked at with no memory touched, then read or written.
+// The registers of a calculation as operands, looked at with no memory touched; and after it.
 use crate::ahead::Ahead;
-use crate::ahead::look_ahead;
+use crate::ahead::across;
+use crate::ahead::in_row;
+use crate::ahead::stays;
 use crate::register::is_open;
 use crate::running::Running;
-use crate::transfer::all_within;
-use crate::transfer::read_at;
-use crate::transfer::read_row;
-use crate::transfer::row_within;
-use crate::transfer::write_at;
-use crate::transfer::write_row;
+use crate::running::again;
+use crate::running::moved_on;
+use crate::transfer::parts_within;
 use codec::amounts::Bytes;
 ghost use mathlib.Core.Path.{_≡_};
 ghost use mathlib.Core.List.{[]};
 ghost use mathlib.Core.Bool.{true, false, cond, not, _&&_};
-ghost use Prim.Native.Nat.{_*_, _≤_};
+ghost use Prim.Native.Nat.{_+_, _≤_, _<_, _^_};
 ghost use lib.ListN.{length};
 ghost use lib.IntN.{pos};
 ghost use Rattle.engine.specs.Registers.{isOpen};
-ghost use Rattle.engine.specs.Memory.{lanesFrom, packed};
 ghost use Rattle.engine.specs.Places.{Ready};
 ghost use Rattle.engine.specs.Rows.{patternIn};
-ghost use Rattle.engine.specs.Stretches.{allWithin, fetchedAt, storedAt};
-ghost use Rattle.engine.specs.Runnings.{viewOf, Remembers, listed, Near, filledWith};
+ghost use Rattle.engine.specs.Stretches.{allWithin, Parts};
+ghost use Rattle.engine.specs.Runnings.{viewOf, Remembers, listedIn, filledWith, afterwards};
 ghost use Rattle.engine.specs.Operands.{Taken};
 
 // A register that is no open stream: so many lanes, and nothing moves.
-pub(crate) fn unmoved(r: Running, plain: usize) -> Ahead
-    ensures { λ o. ⌜ o ≡ record { live = false; rowed = true; count = plain; start = record { 0 = pos 0 }; step = record { 0 = pos 0 }; after = r } ⌝ }
+pub(crate) fn unmoved(plain: usize) -> Ahead
+    ensures { λ o. ⌜ o ≡ record { live = false; found = false; count = plain; parts = 0; height = 0; index = 0; address = record { 0 = pos 0 }; size = 0; step = record { 0 = pos 0 } } ⌝ }
 {
     Ahead {
         live: false,
-        rowed: true,
+        found: false,
         count: plain,
-        start: Bytes(0),
+        parts: 0,
+        height: 0,
+        index: 0,
+        address: Bytes(0),
+        size: 0,
         step: Bytes(0),
-        after: r,
     }
 }
 
-// A register as an operand: of an open stream at most so many elements of its next chunk, of any other register so many lanes.
-pub(crate) fn as_operand(
+// A register as a source: of an open stream at most so many elements of its next chunk, of any other register its valid lanes.
+pub(crate) fn as_source(
     r: Running,
     most: usize,
-    plain: usize,
     shape: &[u64; 51],
     places: &[i64; 15],
     index: &mut [u64; 7],
-    addresses: &mut [i64; 64],
+    parts: &mut [[i64; 3]; 64],
 ) -> Ahead
-    requires { ⌜ (most ≤ 64) × (length (now addresses) ≡ 64) ⌝ }
+    requires { ⌜ (most ≤ 64) × (length (now parts) ≡ 64) ⌝ }
     requires { ⌜ (isOpen (r .state) ≡ true → Ready (viewOf (patternIn (now shape) (now places)) [] (now index) r)) × Remembers (patternIn (now shape) (now places)) (now index) r ⌝ }
-    ensures { λ o. ⌜ Taken (patternIn (now (shape .entry)) (now (places .entry))) (now (index .entry)) r most plain (now (index .exit)) (now (addresses .exit)) o ⌝ }
+    ensures { λ o. ⌜ Taken (patternIn (now (shape .entry)) (now (places .entry))) (now (index .entry)) r most (r .valid) (now (index .exit)) (now (parts .exit)) o ⌝ }
 {
-    let k = r.state;
-    if is_open(k) {
-        return look_ahead(r, most, shape, places, index, addresses);
+    let state = r.state;
+    if !is_open(state) {
+        return unmoved(r.valid as usize);
     }
-    unmoved(r, plain)
+    if stays(r, most, shape) {
+        return in_row(r, most, parts);
+    }
+    across(again(r), most, shape, places, index, parts)
 }
 
-// The second source: the first once more if it is the same register.
-pub(crate) fn second_operand(
+// The second source: the first once more, with the first's parts, if it is the same register.
+pub(crate) fn second_source(
     same: bool,
     x: Ahead,
     first: &[u64; 7],
-    xs: &[i64; 64],
+    xs: &[[i64; 3]; 64],
     r: Running,
     most: usize,
-    plain: usize,
     shape: &[u64; 51],
     places: &[i64; 15],
     index: &mut [u64; 7],
-    addresses: &mut [i64; 64],
+    parts: &mut [[i64; 3]; 64],
 ) -> Ahead
-    requires { ⌜ (most ≤ 64) × (length (now addresses) ≡ 64) ⌝ }
+    requires { ⌜ (most ≤ 64) × (length (now parts) ≡ 64) ⌝ }
     requires { ⌜ (isOpen (r .state) ≡ true → Ready (viewOf (patternIn (now shape) (now places)) [] (now index) r)) × Remembers (patternIn (now shape) (now places)) (now index) r ⌝ }
-    requires { ⌜ (same ≡ true → Taken (patternIn (now shape) (now places)) (now index) r most plain (now first) (now xs) x) ⌝ }
-    ensures { λ o. ⌜ Taken (patternIn (now (shape .entry)) (now (places .entry))) (now (index .entry)) r most plain (now (index .exit)) (now (addresses .exit)) o ⌝ }
-    ensures { λ o. ⌜ (same ≡ true → (o ≡ x) × (listed (o .rowed) (o .start) (o .step) (o .count) (now (addresses .exit)) ≡ listed (x .rowed) (x .start) (x .step) (x .count) (now (xs .entry)))) ⌝ }
+    requires { ⌜ (same ≡ true → Taken (patternIn (now shape) (now places)) (now index) r most (r .valid) (now first) (now xs) x) ⌝ }
+    ensures { λ o. ⌜ Taken (patternIn (now (shape .entry)) (now (places .entry))) (now (index .entry)) r most (r .valid) (now (index .exit)) (cond same (now (xs .entry)) (now (parts .exit))) o ⌝ }
+    ensures { λ o. ⌜ (length (now (parts .exit)) ≡ 64) × (same ≡ true → o ≡ x) ⌝ }
 {
     if same {
         *index = *first;
-        if !x.rowed {
-            *addresses = *xs;
-        }
         return x;
     }
-    as_operand(r, most, plain, shape, places, index, addresses)
+    as_source(r, most, shape, places, index, parts)
+}
+
+// A register as a destination of so many lanes: of an open stream at most so many elements of its next chunk.
+pub(crate) fn as_destination(
+    r: Running,
+    n: usize,
+    shape: &[u64; 51],
+    places: &[i64; 15],
+    index: &mut [u64; 7],
+    parts: &mut [[i64; 3]; 64],
+) -> Ahead
+    requires { ⌜ (n ≤ 64) × (length (now parts) ≡ 64) ⌝ }
+    requires { ⌜ (isOpen (r .state) ≡ true → Ready (viewOf (patternIn (now shape) (now places)) [] (now index) r)) × Remembers (patternIn (now shape) (now places)) (now index) r ⌝ }
+    ensures { λ o. ⌜ Taken (patternIn (now (shape .entry)) (now (places .entry))) (now (index .entry)) r n n (now (index .exit)) (now (parts .exit)) o ⌝ }
+{
+    let state = r.state;
+    if !is_open(state) {
+        return unmoved(n);
+    }
+    if stays(r, n, shape) {
+        return in_row(r, n, parts);
+    }
+    across(again(r), n, shape, places, index, parts)
 }
 
 // Whether an element that an open stream would move lies outside memory.
-pub(crate) fn outside(o: Ahead, width: u64, len: usize, addresses: &[i64; 64]) -> bool
-    requires { ⌜ ((o .count ≤ 64) × (width ≤ 8)) × Near (o .start) (o .step) ⌝ }
-    ensures { λ q. ⌜ q ≡ (o .live && not (allWithin len width (listed (o .rowed) (o .start) (o .step) (o .count) (now (addresses .entry))))) ⌝ }
+pub(crate) fn outside(o: Ahead, width: u64, len: usize, parts: &[[i64; 3]; 64]) -> bool
+    requires { ⌜ (width ≤ 8) × Parts (o .parts) (now parts) ⌝ }
+    ensures { λ q. ⌜ q ≡ (o .live && not (allWithin len width (listedIn o (now (parts .entry))))) ⌝ }
 {
     if !o.live {
         return false;
     }
-    if o.rowed {
-        let start = o.start;
-        let step = o.step;
-        return !row_within(start, step, o.count, width, len);
+    !parts_within(parts, o.parts, width, len)
+}
+
+// The same of the second source, unless it is the first once more.
+pub(crate) fn second_outside(
+    same: bool,
+    o: Ahead,
+    width: u64,
+    len: usize,
+    parts: &[[i64; 3]; 64],
+) -> bool
+    requires { ⌜ (width ≤ 8) × (same ≡ false → Parts (o .parts) (now parts)) ⌝ }
+    ensures { λ q. ⌜ q ≡ (not same && (o .live && not (allWithin len width (listedIn o (now (parts .entry)))))) ⌝ }
+{
+    if same {
+        return false;
     }
-    !all_within(addresses, o.count, width, len)
+    outside(o, width, len, parts)
 }
 
 // A register with so many lanes of a width as its content.
@@ -115,60 +149,24 @@ pub(crate) fn filled(r: Running, width: u64, n: u64) -> Running
     q
 }
 
-// A source read: of an open stream the chunk becomes its content and the register moves on; any other stays.
-pub(crate) fn read_on(
-    o: Ahead,
-    width: u64,
-    memory: &[u8],
-    addresses: &[i64; 64],
-    lanes: &mut [u8; 64],
-) -> Running
-    requires { ⌜ ((1 ≤ width) × (width ≤ 8)) × ((o .count * width ≤ 64) × Near (o .start) (o .step)) ⌝ }
-    requires { ⌜ (o .live ≡ true → allWithin (length (now memory)) width (listed (o .rowed) (o .start) (o .step) (o .count) (now addresses)) ≡ true) ⌝ }
-    ensures { λ q. ⌜ q ≡ cond (o .live) (filledWith width (o .count) (o .after)) (o .after) ⌝ }
-    ensures { λ _. ⌜ now (lanes .exit) ≡ cond (o .live) (packed width (fetchedAt (now (memory .entry)) width (listed (o .rowed) (o .start) (o .step) (o .count) (now (addresses .entry))))) (now (lanes .entry)) ⌝ }
+// A source after it was read: the chunk of an open stream is its content, and it moved on; any other stays.
+pub(crate) fn after_read(r: Running, o: Ahead, width: u64) -> Running
+    requires { ⌜ (o .live ≡ true → r .moved + o .count < 2 ^ 32) ⌝ }
+    ensures { λ q. ⌜ q ≡ cond (o .live) (filledWith width (o .count) (afterwards o r)) (afterwards o r) ⌝ }
 {
-    let after = o.after;
     if !o.live {
-        return after;
+        return r;
     }
-    if o.rowed {
-        let start = o.start;
-        let step = o.step;
-        read_row(memory, start, step, o.count, width, lanes);
-        return filled(after, width, o.count as u64);
-    }
-    read_at(memory, addresses, o.count, width, lanes);
-    filled(after, width, o.count as u64)
+    filled(moved_on(r, o), width, o.count as u64)
 }
 
-// A destination written: lanes go to memory if it is a stream, which moves on; else they are the register's content.
-pub(crate) fn write_on(
-    o: Ahead,
-    width: u64,
-    n: usize,
-    out: &[u8; 64],
-    memory: &mut [u8],
-    addresses: &[i64; 64],
-    lanes: &mut [u8; 64],
-) -> Running
-    requires { ⌜ ((1 ≤ width) × (width ≤ 8)) × ((n * width ≤ 64) × Near (o .start) (o .step)) ⌝ }
-    requires { ⌜ (o .live ≡ true → (o .count ≡ n) × (allWithin (length (now memory)) width (listed (o .rowed) (o .start) (o .step) (o .count) (now addresses)) ≡ true)) ⌝ }
-    ensures { λ q. ⌜ q ≡ cond (o .live) (o .after) (filledWith width n (o .after)) ⌝ }
-    ensures { λ _. ⌜ now (lanes .exit) ≡ cond (o .live) (now (lanes .entry)) (now (out .entry)) ⌝ }
-    ensures { λ _. ⌜ now (memory .exit) ≡ cond (o .live) (storedAt (now (memory .entry)) width (listed (o .rowed) (o .start) (o .step) (o .count) (now (addresses .entry))) (lanesFrom (now (out .entry)) width 0 n)) (now (memory .entry)) ⌝ }
+// A destination after it was written: a stream moved on; any other has so many lanes as its content.
+pub(crate) fn after_write(r: Running, o: Ahead, width: u64, n: usize) -> Running
+    requires { ⌜ (o .live ≡ true → r .moved + o .count < 2 ^ 32) ⌝ }
+    ensures { λ q. ⌜ q ≡ cond (o .live) (afterwards o r) (filledWith width n (afterwards o r)) ⌝ }
 {
-    let after = o.after;
     if !o.live {
-        *lanes = *out;
-        return filled(after, width, n as u64);
+        return filled(r, width, n as u64);
     }
-    if o.rowed {
-        let start = o.start;
-        let step = o.step;
-        write_row(memory, start, step, n, width, out);
-        return after;
-    }
-    write_at(memory, addresses, n, width, out);
-    after
+    moved_on(r, o)
 }

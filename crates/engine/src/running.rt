@@ -1,15 +1,14 @@
 // A register while a sheet runs: what changes with every chunk, with where the stream stands in its row. Its lanes, the indices of its
 // element and its descriptors are in arrays beside it, which can be lent.
-use crate::address::plus;
-use crate::address::times;
-use crate::leave::Leaving;
-use crate::place::Spot;
+use crate::ahead::Ahead;
 use crate::register::State;
 use codec::amounts::Bytes;
 use codec::header::Kind;
 ghost use mathlib.Core.Path.{_≡_};
-ghost use Prim.Native.Nat.{_+_, _≤_, _<_, _^_};
-ghost use Rattle.engine.specs.Runnings.{alongBy, restingAt, turnedTo, Near};
+ghost use mathlib.Core.Bool.{cond};
+ghost use Prim.Native.Nat.{_+_, _<_, _^_};
+ghost use Rattle.engine.specs.declared.register.State.the-variants.{Open, Finished};
+ghost use Rattle.engine.specs.Runnings.{behind};
 
 // `index` is the innermost. Of an open stream `address`, `size` and `step` are the next element's address, the innermost size of its
 // pass and the innermost stride in bytes.
@@ -26,71 +25,56 @@ pub(crate) struct Running {
     pub step: Bytes,
 }
 
-// Open after some elements more of its row, at another of it.
-pub(crate) fn along(r: Running, n: u64) -> Running
-    requires { ⌜ Near (r .address) (r .step) × (n ≤ 64) ⌝ }
-    requires { ⌜ (r .index ≤ 4096) × (r .moved < 2 ^ 32) ⌝ }
-    ensures { λ q. ⌜ q ≡ alongBy n r ⌝ }
+// A running register once more, made where it is needed: the first need not lie in memory.
+pub(crate) fn again(r: Running) -> Running
+    ensures { λ q. ⌜ q ≡ r ⌝ }
 {
+    let state = r.state;
     let kind = r.kind;
-    let from = r.address;
+    let address = r.address;
     let step = r.step;
     Running {
-        state: State::Open,
+        state,
         kind,
         width: r.width,
         valid: r.valid,
-        moved: r.moved + n,
-        height: 1,
-        index: r.index + n,
-        address: plus(from, times(step, n)),
+        moved: r.moved,
+        height: r.height,
+        index: r.index,
+        address,
         size: r.size,
         step,
     }
 }
 
-// Open after some elements more, at innermost index `i` of a spot.
-pub(crate) fn resting(r: Running, n: u64, height: u64, i: u64, s: Spot) -> Running
-    requires { ⌜ r .moved + n < 2 ^ 32 ⌝ }
-    ensures { λ q. ⌜ q ≡ restingAt n height i s r ⌝ }
+// Open, or finished.
+fn open_if(found: bool) -> State
+    ensures { λ q. ⌜ q ≡ cond found Open Finished ⌝ }
 {
-    let kind = r.kind;
-    let address = s.address;
-    let step = s.step;
-    Running {
-        state: State::Open,
-        kind,
-        width: r.width,
-        valid: r.valid,
-        moved: r.moved + n,
-        height,
-        index: i,
-        address,
-        size: s.size,
-        step,
+    if found {
+        return State::Open;
     }
+    State::Finished
 }
 
-// After some elements more and a step out of a row.
-pub(crate) fn turned(r: Running, n: u64, t: Leaving, i: u64) -> Running
-    requires { ⌜ r .moved + n < 2 ^ 32 ⌝ }
-    ensures { λ q. ⌜ q ≡ turnedTo n (t .found) (t .height) i (t .spot) r ⌝ }
+// Behind a chunk that was looked at.
+pub(crate) fn moved_on(r: Running, o: Ahead) -> Running
+    requires { ⌜ r .moved + o .count < 2 ^ 32 ⌝ }
+    ensures { λ q. ⌜ q ≡ behind o r ⌝ }
 {
     let kind = r.kind;
-    if t.found {
-        let spot = t.spot;
-        return resting(r, n, t.height, i, spot);
-    }
+    let address = o.address;
+    let step = o.step;
     Running {
-        state: State::Finished,
+        state: open_if(o.found),
         kind,
         width: r.width,
         valid: r.valid,
-        moved: r.moved + n,
-        height: t.height,
-        index: 0,
-        address: Bytes(0),
-        size: 0,
-        step: Bytes(0),
+        moved: r.moved + (o.count as u64),
+        height: o.height,
+        index: o.index,
+        address,
+        size: o.size,
+        step,
     }
 }

@@ -1,5 +1,5 @@
-// Elements of memory moved to and from the 64 bytes of a register, and lanes combined there. The elements of one row are a start, a step
-// and a count; elements of several rows are a list of addresses.
+// Elements of memory moved to and from the 64 bytes of a register, and lanes combined there. Elements come in parts, each the elements of
+// one row: a start, a step and a count.
 use crate::address::plus;
 use crate::address::times;
 use crate::lane::lane;
@@ -11,19 +11,20 @@ use codec::amounts::Bytes;
 use codec::operation::Action;
 ghost use mathlib.Core.Path.{_≡_};
 ghost use mathlib.Core.Bool.{true};
-ghost use Prim.Native.Nat.{_+_, _*_, _^_, _≤_, _<_};
+ghost use mathlib.Core.List.{[]};
+ghost use Prim.Native.Nat.{ℕ, _+_, _*_, _^_, _≤_, _<_};
 ghost use lib.ListN.{length, getD, take, drop};
 ghost use lib.Seq.{sets};
 ghost use lib.IntN.{pos, natAbs};
 ghost use Rattle.engine.specs.Loops.{natural};
 ghost use Rattle.engine.specs.Addresses.{inside};
-ghost use Rattle.engine.specs.Memory.{valueAt, littleEndian, lanesFrom, packed};
+ghost use Rattle.engine.specs.Memory.{valueAt, littleEndian, lanesFrom, joined, packed};
 ghost use Rattle.engine.specs.ByteLaws.{Bytewise};
 ghost use Rattle.engine.specs.Lanes.{lane, lanewise};
-ghost use Rattle.engine.specs.Stretches.{progression, allWithin, fetchedAt, storedAt};
+ghost use Rattle.engine.specs.Stretches.{progression, joinedIn, Part, allWithin, fetchedAt, storedAt};
 
 // Whether all elements of a row lie inside a memory of `len` bytes: its first and its last do.
-pub(crate) fn row_within(start: Bytes, step: Bytes, n: usize, width: u64, len: usize) -> bool
+fn row_within(start: Bytes, step: Bytes, n: usize, width: u64, len: usize) -> bool
     requires { ⌜ (n ≤ 64) × ((width ≤ 8) × ((natAbs (start .0) ≤ 2 ^ 55) × (natAbs (step .0) ≤ 2 ^ 51))) ⌝ }
     ensures { λ r. ⌜ r ≡ allWithin len width (progression (start .0) (step .0) n) ⌝ }
 {
@@ -37,23 +38,42 @@ pub(crate) fn row_within(start: Bytes, step: Bytes, n: usize, width: u64, len: u
     inside(last, width, len)
 }
 
-// Address `k` of a list.
-fn address_at(addresses: &[i64], k: usize) -> Bytes
-    requires { ⌜ k < length (now addresses) ⌝ }
-    ensures { λ r. ⌜ r .0 ≡ getD (now (addresses .entry)) k (pos 0) ⌝ }
+// The first address of part `k`, its step, and how many elements it has.
+fn start_of(parts: &[[i64; 3]], k: usize) -> Bytes
+    requires { ⌜ (k < length (now parts)) × (length (getD (now parts) k []) ≡ 3) ⌝ }
+    ensures { λ r. ⌜ r .0 ≡ getD (getD (now (parts .entry)) k []) 0 (pos 0) ⌝ }
 {
-    Bytes(addresses[k])
+    let p = parts[k];
+    Bytes(p[0])
 }
 
-// Whether the elements at the first `n` addresses all lie inside.
-pub(crate) fn all_within(addresses: &[i64; 64], n: usize, width: u64, len: usize) -> bool
-    requires { ⌜ (n ≤ 64) × (width ≤ 8) ⌝ }
-    ensures { λ r. ⌜ r ≡ allWithin len width (take n (now (addresses .entry))) ⌝ }
+fn step_of(parts: &[[i64; 3]], k: usize) -> Bytes
+    requires { ⌜ (k < length (now parts)) × (length (getD (now parts) k []) ≡ 3) ⌝ }
+    ensures { λ r. ⌜ r .0 ≡ getD (getD (now (parts .entry)) k []) 1 (pos 0) ⌝ }
+{
+    let p = parts[k];
+    Bytes(p[1])
+}
+
+fn count_of(parts: &[[i64; 3]], k: usize) -> usize
+    requires { ⌜ (k < length (now parts)) × Part (getD (now parts) k []) ⌝ }
+    ensures { λ r. ⌜ r ≡ natural (getD (getD (now (parts .entry)) k []) 2 (pos 0)) ⌝ }
+{
+    let p = parts[k];
+    p[2] as usize
+}
+
+// Whether all elements of the first `m` parts lie inside.
+pub(crate) fn parts_within(parts: &[[i64; 3]; 64], m: usize, width: u64, len: usize) -> bool
+    requires { ⌜ (m ≤ 64) × ((width ≤ 8) × ((k : ℕ) → k < m → Part (getD (now parts) k []))) ⌝ }
+    ensures { λ r. ⌜ r ≡ allWithin len width (joinedIn (take m (now (parts .entry)))) ⌝ }
 {
     let mut k = 0;
-    while k < n {
-        let a = address_at(addresses, k);
-        if !inside(a, width, len) {
+    while k < m {
+        let start = start_of(parts, k);
+        let step = step_of(parts, k);
+        let n = count_of(parts, k);
+        if !row_within(start, step, n, width, len) {
             return false;
         }
         k += 1;
@@ -112,107 +132,120 @@ fn write_lane(memory: &mut [u8], a: Bytes, width: u64, lanes: &[u8; 64], k: usiz
     store(memory, place(a), width, x);
 }
 
-// The elements of a row become a register's lanes, zeros behind. Elements side by side are copied byte by byte.
-pub(crate) fn read_row(
+// The elements of a row become lane `at` of a register and those behind it. Elements side by side are copied byte by byte.
+fn read_part(
     memory: &[u8],
     start: Bytes,
     step: Bytes,
     n: usize,
     width: u64,
     lanes: &mut [u8; 64],
+    at: usize,
 )
-    requires { ⌜ ((1 ≤ width) × (width ≤ 8)) × (n * width ≤ 64) ⌝ }
+    requires { ⌜ ((1 ≤ width) × (width ≤ 8)) × (at * width + n * width ≤ 64) ⌝ }
     requires { ⌜ (natAbs (start .0) ≤ 2 ^ 55) × (natAbs (step .0) ≤ 2 ^ 51) ⌝ }
     requires { ⌜ allWithin (length (now memory)) width (progression (start .0) (step .0) n) ≡ true ⌝ }
-    ensures { λ _. ⌜ now (lanes .exit) ≡ packed width (fetchedAt (now (memory .entry)) width (progression (start .0) (step .0) n)) ⌝ }
+    ensures { λ _. ⌜ now (lanes .exit) ≡ sets (now (lanes .entry)) (at * width) (joined width (fetchedAt (now (memory .entry)) width (progression (start .0) (step .0) n))) ⌝ }
 {
-    *lanes = [0; 64];
     if n == 0 {
         return;
     }
     if adjacent(step, width) {
         let bytes = n * (width as usize);
-        copy(memory, place(start), bytes, lanes, 0);
+        let first = at * (width as usize);
+        copy(memory, place(start), bytes, lanes, first);
         return;
     }
     let mut a = start;
     let mut k = 0;
     while k < n {
-        read_lane(memory, a, width, lanes, k);
+        read_lane(memory, a, width, lanes, at + k);
         a = plus(a, step);
         k += 1;
     }
 }
 
-// The elements at the first `n` addresses become a register's lanes, zeros behind.
-pub(crate) fn read_at(
+// The elements of the first `m` parts become a register's lanes, one part after the other, zeros behind.
+pub(crate) fn read_parts(
     memory: &[u8],
-    addresses: &[i64; 64],
-    n: usize,
+    parts: &[[i64; 3]; 64],
+    m: usize,
     width: u64,
     lanes: &mut [u8; 64],
 )
-    requires { ⌜ ((1 ≤ width) × (width ≤ 8)) × (n * width ≤ 64) ⌝ }
-    requires { ⌜ allWithin (length (now memory)) width (take n (now addresses)) ≡ true ⌝ }
-    ensures { λ _. ⌜ now (lanes .exit) ≡ packed width (fetchedAt (now (memory .entry)) width (take n (now (addresses .entry)))) ⌝ }
+    requires { ⌜ (m ≤ 64) × ((k : ℕ) → k < m → Part (getD (now parts) k [])) ⌝ }
+    requires { ⌜ ((1 ≤ width) × (width ≤ 8)) × (length (joinedIn (take m (now parts))) * width ≤ 64) ⌝ }
+    requires { ⌜ allWithin (length (now memory)) width (joinedIn (take m (now parts))) ≡ true ⌝ }
+    ensures { λ _. ⌜ now (lanes .exit) ≡ packed width (fetchedAt (now (memory .entry)) width (joinedIn (take m (now (parts .entry))))) ⌝ }
 {
     *lanes = [0; 64];
     let mut k = 0;
-    while k < n {
-        let a = address_at(addresses, k);
-        read_lane(memory, a, width, lanes, k);
+    let mut at = 0;
+    while k < m {
+        let start = start_of(parts, k);
+        let step = step_of(parts, k);
+        let n = count_of(parts, k);
+        read_part(memory, start, step, n, width, lanes, at);
+        at += n;
         k += 1;
     }
 }
 
-// A register's first `n` lanes are written to the elements of a row.
-pub(crate) fn write_row(
+// Lane `at` of a register and those behind it are written to the elements of a row.
+fn write_part(
     memory: &mut [u8],
     start: Bytes,
     step: Bytes,
     n: usize,
     width: u64,
     lanes: &[u8; 64],
+    at: usize,
 )
-    requires { ⌜ ((1 ≤ width) × (width ≤ 8)) × (n * width ≤ 64) ⌝ }
+    requires { ⌜ ((1 ≤ width) × (width ≤ 8)) × (at * width + n * width ≤ 64) ⌝ }
     requires { ⌜ (natAbs (start .0) ≤ 2 ^ 55) × (natAbs (step .0) ≤ 2 ^ 51) ⌝ }
     requires { ⌜ allWithin (length (now memory)) width (progression (start .0) (step .0) n) ≡ true ⌝ }
-    ensures { λ _. ⌜ now (memory .exit) ≡ storedAt (now (memory .entry)) width (progression (start .0) (step .0) n) (lanesFrom (now (lanes .entry)) width 0 n) ⌝ }
+    ensures { λ _. ⌜ now (memory .exit) ≡ storedAt (now (memory .entry)) width (progression (start .0) (step .0) n) (lanesFrom (now (lanes .entry)) width (at * width) n) ⌝ }
 {
     if n == 0 {
         return;
     }
     if adjacent(step, width) {
         let bytes = n * (width as usize);
-        copy(lanes, 0, bytes, memory, place(start));
+        let first = at * (width as usize);
+        copy(lanes, first, bytes, memory, place(start));
         return;
     }
     let mut a = start;
     let mut k = 0;
     while k < n {
-        write_lane(memory, a, width, lanes, k);
+        write_lane(memory, a, width, lanes, at + k);
         a = plus(a, step);
         k += 1;
     }
 }
 
-// A register's first `n` lanes are written to the first `n` addresses, one after the other.
-pub(crate) fn write_at(
+// A register's lanes are written to the elements of the first `m` parts, one part after the other.
+pub(crate) fn write_parts(
     memory: &mut [u8],
-    addresses: &[i64; 64],
-    n: usize,
+    parts: &[[i64; 3]; 64],
+    m: usize,
     width: u64,
     lanes: &[u8; 64],
 )
-    requires { ⌜ ((1 ≤ width) × (width ≤ 8)) × (n * width ≤ 64) ⌝ }
-    requires { ⌜ allWithin (length (now memory)) width (take n (now addresses)) ≡ true ⌝ }
-    ensures { λ _. ⌜ now (memory .exit) ≡ storedAt (now (memory .entry)) width (take n (now (addresses .entry))) (lanesFrom (now (lanes .entry)) width 0 n) ⌝ }
+    requires { ⌜ (m ≤ 64) × ((k : ℕ) → k < m → Part (getD (now parts) k [])) ⌝ }
+    requires { ⌜ ((1 ≤ width) × (width ≤ 8)) × (length (joinedIn (take m (now parts))) * width ≤ 64) ⌝ }
+    requires { ⌜ allWithin (length (now memory)) width (joinedIn (take m (now parts))) ≡ true ⌝ }
+    ensures { λ _. ⌜ now (memory .exit) ≡ storedAt (now (memory .entry)) width (joinedIn (take m (now (parts .entry)))) (lanesFrom (now (lanes .entry)) width 0 (length (joinedIn (take m (now (parts .entry)))))) ⌝ }
 {
-    let mut written = 0;
-    while written < n {
-        let a = address_at(addresses, written);
-        write_lane(memory, a, width, lanes, written);
-        written += 1;
+    let mut k = 0;
+    let mut at = 0;
+    while k < m {
+        let start = start_of(parts, k);
+        let step = step_of(parts, k);
+        let n = count_of(parts, k);
+        write_part(memory, start, step, n, width, lanes, at);
+        at += n;
+        k += 1;
     }
 }
 

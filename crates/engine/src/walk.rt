@@ -13,23 +13,28 @@ ghost use Rattle.engine.specs.Rows.{shapeIn};
 ghost use Rattle.engine.specs.Walk.{at, after, Element, Stands};
 
 // To the first element to come, where dimension start is about to run the index that it has: whether there is one. The indices move in
-// place.
+// place. A dimension's size depends on the indices outside it only: it is reckoned on the way down, and stays for the way up.
 fn seek(shape: &[u64; 51], index: &mut [u64; 7], start: usize) -> bool
     requires { ⌜ Accepted (shapeIn (now shape)) × (start < shapeIn (now shape) .dims) × (length (now index) ≡ 7) ⌝ }
     requires { ⌜ ((k : ℕ) → getD (now index) k 0 ≤ 4096) × Under (shapeIn (now shape)) (suc start) (drop (suc start) (now index)) ⌝ }
     ensures { λ found. ⌜ at (sizeAt (shapeIn (now (shape .entry)))) (shapeIn (now (shape .entry)) .dims) start (now (index .entry)) ≡ cond found (now (index .exit) ∷ after (sizeAt (shapeIn (now (shape .entry)))) (shapeIn (now (shape .entry)) .dims) (now (index .exit))) [] ⌝ }
 {
     let dims = shape[7] as usize;
+    // of the dimensions from d outwards, 0 where it is not reckoned yet
+    let mut sizes: [u64; 7] = [0; 7];
     let mut d = start;
+    let mut size = size_at(shape, &*index, d);
+    sizes[d] = size;
     loop {
         let i = index[d];
-        let size = size_at(shape, &*index, d);
         if i < size {
             if d == 0 {
                 return true;
             }
             d -= 1;
             index[d] = 0;
+            size = size_at(shape, &*index, d);
+            sizes[d] = size;
         } else {
             d += 1;
             if dims <= d {
@@ -37,6 +42,11 @@ fn seek(shape: &[u64; 51], index: &mut [u64; 7], start: usize) -> bool
             }
             let j = index[d];
             index[d] = j + 1;
+            size = sizes[d];
+            if size == 0 {
+                size = size_at(shape, &*index, d);
+                sizes[d] = size;
+            }
         }
     }
 }

@@ -1,15 +1,13 @@
--- `address::address` meets its contract: after d turns the sum is the address over the first d dimensions, within 2^20 + d x 2^52.
+-- `address::address` meets its contract: after d turns the sum is the address over the first d dimensions, within 2^20 + d x 2^52; where there is no
+-- modifier, by its callee.
 use native.Mathlib.Omega.{arith}
-use Prim.Native.Nat.{ℕ, suc, _+_, _-_, _*_, _≤_, _^_}
-use mathlib.Core.Path.{_≡_, refl, sym, _∙_, ap}
-use mathlib.Core.List.{List}
-use native.Mathlib.Numerals.{add-one}
-use lib.ListN.{getD, drop}
+use Prim.Native.Nat.{_+_, _-_, _*_, _≤_, _^_}
+use mathlib.Core.Path.{_≡_, sym, _∙_, ap}
 use lib.IntN.{natAbs, _+ℤ_}
-use Rattle.engine.specs.Addresses.{offsetAt, strideAt, inBytes, addressUpTo}
+use Rattle.engine.specs.Addresses.{addressUpTo}
 use Rattle.engine.specs.Rows.{patternIn}
-use Rattle.engine.specs.declared.stream.Pattern.{Pattern}
 use Rattle.engine.proofs.RowReads.{base-read}
+use Rattle.engine.proofs.AddressSteps.{up-to-none, up-to-next}
 use borrow.Author.Needs.{needs}
 use Rattle.engine.proofs.address.address.Statement.{statement}
 use Rattle.engine.proofs.address.address.Tie as tie
@@ -21,31 +19,32 @@ Inv-loop shape places width index n sum₀ d₀ sum d =
 abbrev μ-loop : tie.MeasureT-loop
 μ-loop shape places width index n sum₀ d₀ sum d = n - d
 
-up-to-none : (p : Pattern) (width : ℕ) (v : List ℕ) → p .base .0 ≡ addressUpTo p width v 0
-unfolding addressUpTo
-up-to-none p width v = refl
+element-copy-out-if1 : tie.Need-element-copy-out-if1 Inv-loop μ-loop
+element-copy-out-if1 c = search needs
 
-up-to-next : (p : Pattern) (width : ℕ) (v : List ℕ) (d : ℕ)
-    → addressUpTo p width v (d + 1) ≡ addressUpTo p width v d +ℤ (offsetAt p d (drop (suc d) v) +ℤ inBytes (strideAt p d (drop (suc d) v)) (getD v d 0) width)
-unfolding addressUpTo
-up-to-next p width v d = rw (add-one d)
+plain-address-requires : tie.Need-plain-address-requires Inv-loop μ-loop
+plain-address-requires c κs =
+    let s = c .before .before in (s .pre .0, s .pre .1, s .pre .2, c .if1 .taken)
+
+returns : tie.Need-returns Inv-loop μ-loop
+returns c = c .plain-address .ensures
 
 element-copy-out-n : tie.Need-element-copy-out-n Inv-loop μ-loop
 element-copy-out-n c = search needs
 
-element-copy-out-t14 : tie.Need-element-copy-out-t14 Inv-loop μ-loop
-element-copy-out-t14 c = search needs
+element-copy-out-t17 : tie.Need-element-copy-out-t17 Inv-loop μ-loop
+element-copy-out-t17 c = search needs
 
 loop-holds : tie.Need-loop-holds Inv-loop μ-loop
 loop-holds c =
-    let s = c .before .before in
+    let s = c .before .before .before .before in
     let p = patternIn (s .args .shape .now) (s .args .places .now) in
     let e = base-read (s .args .shape .now) (s .args .places .now) (s .pre .0) in
     (omega arith, s .pre .0 .shape .dims, e ∙ up-to-none p (s .args .width) (s .args .index .now), omega (arith, s .pre .0 .base, ap natAbs e))
 
 term-requires : tie.Need-term-requires Inv-loop μ-loop
 term-requires c κs =
-    let s = c .before .before .before .before in (s .pre .0, s .pre .1, omega arith, s .pre .2)
+    let s = c .before .before .before .before .before .before in (s .pre .0, s .pre .1, omega arith, s .pre .2)
 
 plus-requires : tie.Need-plus-requires Inv-loop μ-loop
 plus-requires c κs = (omega arith, omega (arith, c .term .ensures .most))
@@ -58,7 +57,7 @@ loop-less c = omega arith
 
 loop-again : tie.Need-loop-again Inv-loop μ-loop
 loop-again c =
-    let s = c .before .before .before .before .before .before in
+    let s = c .before .before .before .before .before .before .before .before in
     let l = c .before .before .before .loop in
     let p = patternIn (s .args .shape .now) (s .args .places .now) in
     let v = s .args .index .now in
@@ -71,9 +70,9 @@ loop-again c =
     let m = c .plus .ensures .most in
     (omega arith, omega arith, c .plus .ensures .exact ∙ e, omega arith)
 
-returns : tie.Need-returns Inv-loop μ-loop
-returns c =
-    let s = c .before .before .before .before in
+returns-2 : tie.Need-returns-2 Inv-loop μ-loop
+returns-2 c =
+    let s = c .before .before .before .before .before .before in
     let p = patternIn (s .args .shape .now) (s .args .places .now) in
     let e : c .before .loop .d ≡ p .shape .dims = omega arith in
     record { exact = c .before .loop .inv .2 ∙ ap (addressUpTo p (s .args .width) (s .args .index .now)) e; most = omega arith }
@@ -84,12 +83,15 @@ address-spec =
     (tie.spec
     Inv-loop
     μ-loop
+    element-copy-out-if1
+    plain-address-requires
+    returns
     element-copy-out-n
-    element-copy-out-t14
+    element-copy-out-t17
     loop-holds
     term-requires
     plus-requires
     add-d
     loop-less
     loop-again
-    returns)
+    returns-2)

@@ -3,9 +3,6 @@ use borrow.Author.Needs.{needs}
 use Rattle.engine.proofs.ahead.along_row.Statement.{statement}
 use Rattle.engine.proofs.ahead.along_row.Tie as tie
 
-add-result : tie.Need-add-result
-add-result c = search needs
-
 returns : tie.Need-returns
 returns c = rw (c .if1 .taken)
 
@@ -13,4 +10,4 @@ returns-2 : tie.Need-returns-2
 returns-2 c = search needs
 
 pub along-row-spec : {M : Type 1} → statement M
-along-row-spec = tie.close (tie.spec add-result returns returns-2)
+along-row-spec = tie.close (tie.spec returns returns-2)

@@ -2,19 +2,24 @@
 use Prim.Native.Nat.{_/_, _≤_}
 use mathlib.Core.Path.{_≡_, refl, sym, _∙_, ap, subst}
 use mathlib.Core.List.{[]}
-use mathlib.Core.Bool.{false}
+use mathlib.Core.Bool.{Bool, true, false, cond}
 use native.Mathlib.Omega.{arith}
-use lib.ListN.{replicate}
+use lib.ListN.{length, replicate}
 use borrow.Author.Tests.{eqb-true, not-false}
 use Rattle.codec.specs.TestLaws.{or-false}
 use Rattle.engine.specs.Checks.{firstOf}
 use Rattle.engine.specs.Rows.{patternAt}
-use Rattle.engine.specs.Runnings.{viewOf, bare}
+use Rattle.engine.specs.Stretches.{Parts}
+use Rattle.engine.specs.Runnings.{viewOf, bare, listedIn}
 use Rattle.engine.specs.Operands.{Taken, operandOf}
 use Rattle.engine.specs.LaneLaws.{width-range}
-use Rattle.engine.specs.declared.check.Why.the-variants.{Nothing}
-use Rattle.engine.proofs.Ordered.{states, widths, states-stop, widths-stop, source-few, target-few, counts-stop, first-outside, second-outside, third-outside}
-use Rattle.engine.proofs.Clearing.{ready, turned-down, stopped, cleared}
+use Rattle.codec.specs.declared.refusal.Refusal.{Refusal}
+use Rattle.engine.specs.Calculations.{Cleared}
+use Rattle.engine.specs.declared.check.Why.{Why}
+use Rattle.engine.specs.declared.check.Why.the-variants.{Nothing, Because}
+use Rattle.engine.specs.declared.calculate.Checked.{Checked}
+use Rattle.engine.proofs.Ordered.{states, after, widths, states-stop, widths-stop, source-few, counts-stop, first-outside, second-outside, third-outside}
+use Rattle.engine.proofs.Clearing.{lanesDiffer, beyond, ready, turned-down, second-beyond, stopped, cleared}
 use borrow.Author.Needs.{needs}
 use Rattle.engine.proofs.calculate.check_calculation.Statement.{statement}
 use Rattle.engine.proofs.calculate.check_calculation.Tie as tie
@@ -26,40 +31,93 @@ no-states c = sym (c .before .before .why-states .ensures) ∙ c .enum-told .giv
 no-widths : (c : tie.Else1) → let a = c .before .before .before .before .before .args in widths (bare (a .a)) (bare (a .b)) (bare (a .d)) ≡ false
 no-widths c = sym (c .before .widths-differ .ensures) ∙ c .if1 .left
 
--- the first source, the second and the destination as operands
-first-taken : (c : tie.After-as-operand) → let a = c .before .before .before .before .before .before .before .before .before .before .before in let x = c .as-operand in
-    Taken (patternAt (a .args .shapes .now) (a .args .places .now) (a .args .i)) (a .args .va .now) (a .args .a) (a .args .vl / a .args .a .width) (a .args .a .valid) (x .last .1 .1 .1 .1 .1 .0) (x .last .1 .1 .1 .1 .1 .1 .0) (x .result)
-first-taken c =
-    let a = c .before .before .before .before .before .before .before .before .before .before .before in
-    let x = c .as-operand in
-    subst (λ m. Taken (patternAt (a .args .shapes .now) (a .args .places .now) (a .args .i)) (a .args .va .now) (a .args .a) m (a .args .a .valid) (x .last .1 .1 .1 .1 .1 .0) (x .last .1 .1 .1 .1 .1 .1 .0) (x .result)) (c .before .before .before .before .before .lanes .ensures .0) (x .ensures)
-
 -- both sources have one width
 one : (c : tie.Else1) → let a = c .before .before .before .before .before .args in a .b .width ≡ a .a .width
 one c = sym (eqb-true _ _ (not-false _ (or-false _ _ (no-widths c) .0)))
 
-second-taken : (c : tie.After-second-operand) → let a = c .before .before .before .before .before .before .before .before .before .before .before .before .before .before .before .before .before .before in let y = c .second-operand in
-    Taken (patternAt (a .args .shapes .now) (a .args .places .now) (a .args .j)) (a .args .vb .now) (a .args .b) (a .args .vl / a .args .b .width) (a .args .b .valid) (y .last .1 .1 .1 .1 .1 .1 .1 .1 .1 .0) (y .last .1 .1 .1 .1 .1 .1 .1 .1 .1 .1 .0) (y .result)
+-- the first source, the second and the destination as operands
+first-taken : (c : tie.After-as-source) → let a = c .before .before .before .before .before .before .before .before .before .before .before in let x = c .as-source in
+    Taken (patternAt (a .args .shapes .now) (a .args .places .now) (a .args .i)) (a .args .va .now) (a .args .a) (a .args .vl / a .args .a .width) (a .args .a .valid) (x .last .1 .1 .1 .1 .0) (x .last .1 .1 .1 .1 .1 .0) (x .result)
+first-taken c =
+    let a = c .before .before .before .before .before .before .before .before .before .before .before in
+    let x = c .as-source in
+    subst (λ m. Taken (patternAt (a .args .shapes .now) (a .args .places .now) (a .args .i)) (a .args .va .now) (a .args .a) m (a .args .a .valid) (x .last .1 .1 .1 .1 .0) (x .last .1 .1 .1 .1 .1 .0) (x .result)) (c .before .before .before .before .before .lanes .ensures .0) (x .ensures)
+
+second-taken : (c : tie.After-second-source) → let a = c .before .before .before .before .before .before .before .before .before .before .before .before .before .before .before .before .before .before in let x = c .before .before .before .before .before .before .before .as-source in let y = c .second-source in
+    Taken (patternAt (a .args .shapes .now) (a .args .places .now) (a .args .j)) (a .args .vb .now) (a .args .b) (a .args .vl / a .args .b .width) (a .args .b .valid) (y .last .1 .1 .1 .1 .1 .1 .1 .1 .0) (cond (a .args .same) (x .last .1 .1 .1 .1 .1 .0) (y .last .1 .1 .1 .1 .1 .1 .1 .1 .1 .0)) (y .result)
 second-taken c =
     let a = c .before .before .before .before .before .before .before .before .before .before .before .before .before .before .before .before .before .before in
-    let y = c .second-operand in
-    subst (λ m. Taken (patternAt (a .args .shapes .now) (a .args .places .now) (a .args .j)) (a .args .vb .now) (a .args .b) m (a .args .b .valid) (y .last .1 .1 .1 .1 .1 .1 .1 .1 .1 .0) (y .last .1 .1 .1 .1 .1 .1 .1 .1 .1 .1 .0) (y .result))
+    let x = c .before .before .before .before .before .before .before .as-source in
+    let y = c .second-source in
+    subst (λ m. Taken (patternAt (a .args .shapes .now) (a .args .places .now) (a .args .j)) (a .args .vb .now) (a .args .b) m (a .args .b .valid) (y .last .1 .1 .1 .1 .1 .1 .1 .1 .0) (cond (a .args .same) (x .last .1 .1 .1 .1 .1 .0) (y .last .1 .1 .1 .1 .1 .1 .1 .1 .1 .0)) (y .result))
     (c .before .before .before .before .before .before .before .before .before .before .before .before .lanes .ensures .0 ∙ ap (λ n. a .args .vl / n) (sym (one (c .before .before .before .before .before .before .before .before .before .before .before .before .before)))) (y .ensures .0)
 
 -- a source has at most 64 lanes
-first-few : (c : tie.After-as-operand) → c .as-operand .result .count ≤ 64
+first-few : (c : tie.After-as-source) → c .as-source .result .count ≤ 64
 first-few c =
     let a = c .before .before .before .before .before .before .before .before .before .before .before in
-    let x = c .as-operand in
+    let x = c .as-source in
     let p = patternAt (a .args .shapes .now) (a .args .places .now) (a .args .i) in
-    source-few (a .args .vl) [] (viewOf p (replicate 64 0) (a .args .va .now) (a .args .a)) (operandOf p (replicate 64 0) (x .last .1 .1 .1 .1 .1 .0) (x .last .1 .1 .1 .1 .1 .1 .0) (x .result)) (a .pre .0 .0 .1) (a .pre .1 .1 .0 .0 .good (replicate 64 0) refl) (first-taken c .operates (replicate 64 0))
+    source-few (a .args .vl) [] (viewOf p (replicate 64 0) (a .args .va .now) (a .args .a)) (operandOf p (replicate 64 0) (x .last .1 .1 .1 .1 .0) (x .last .1 .1 .1 .1 .1 .0) (a .args .a) (x .result)) (a .pre .0 .0 .1) (a .pre .1 .1 .0 .0 .good (replicate 64 0) refl) (first-taken c .operates (replicate 64 0))
 
-second-few : (c : tie.After-second-operand) → c .second-operand .result .count ≤ 64
-second-few c =
-    let a = c .before .before .before .before .before .before .before .before .before .before .before .before .before .before .before .before .before .before in
-    let y = c .second-operand in
-    let p = patternAt (a .args .shapes .now) (a .args .places .now) (a .args .j) in
-    source-few (a .args .vl) [] (viewOf p (replicate 64 0) (a .args .vb .now) (a .args .b)) (operandOf p (replicate 64 0) (y .last .1 .1 .1 .1 .1 .1 .1 .1 .1 .0) (y .last .1 .1 .1 .1 .1 .1 .1 .1 .1 .1 .0) (y .result)) (a .pre .0 .0 .1) (a .pre .1 .1 .0 .1 .0 .good (replicate 64 0) refl) (second-taken c .operates (replicate 64 0))
+-- the second source lies outside, or not, where the first does not
+second-lies : (c : tie.After-second-outside) → let a = c .before .before .before .before .before .before .before .before .before .before .before .before .before .before .before .before .before .before .before .before .before .before .before .before .before .before .before .before .before .before in let x = c .before .before .before .before .before .before .before .before .before .before .before .before .before .before .before .before .before .before .before .as-source in let y = c .before .before .before .before .before .before .before .before .before .before .before .before .second-source in
+    beyond (a .args .len) (y .result) (a .args .b .width) (cond (a .args .same) (x .last .1 .1 .1 .1 .1 .0) (y .last .1 .1 .1 .1 .1 .1 .1 .1 .1 .0)) ≡ c .second-outside .result
+second-lies c =
+    let a = c .before .before .before .before .before .before .before .before .before .before .before .before .before .before .before .before .before .before .before .before .before .before .before .before .before .before .before .before .before .before in
+    let x = c .before .before .before .before .before .before .before .before .before .before .before .before .before .before .before .before .before .before .before .as-source in
+    let y = c .before .before .before .before .before .before .before .before .before .before .before .before .second-source in
+    second-beyond (a .args .len) (a .args .b .width) (a .args .same) (y .result) (x .last .1 .1 .1 .1 .1 .0) (y .last .1 .1 .1 .1 .1 .1 .1 .1 .1 .0) (c .second-outside .result) (c .second-outside .ensures)
+    (λ t.
+    (λ k. beyond (a .args .len) (y .ensures .1 .1 t k) (a .pre .1 .1 .1 t .0 k .width) (x .last .1 .1 .1 .1 .1 .0))
+    ∙ sym (c .before .before .before .outside .ensures) ∙ c .before .before .if3 .left)
+
+-- what the checks found once the three operands were looked at
+abbrev Told : tie.After-as-destination → Checked → Type 0
+Told c =
+    let a = c .before .before .before .before .before .before .before .before .before .before .before .before .before .before .before .before .before .before .before .before .before .before .before in
+    let x = c .before .before .before .before .before .before .before .before .before .before .before .before .as-source in
+    let y = c .before .before .before .before .before .second-source in
+    let z = c .as-destination in
+    Cleared (a .args .vl) (a .args .len) (a .args .same) (patternAt (a .args .shapes .now) (a .args .places .now) (a .args .i)) (patternAt (a .args .shapes .now) (a .args .places .now) (a .args .j)) (patternAt (a .args .shapes .now) (a .args .places .now) (a .args .t)) (a .args .a) (a .args .b) (a .args .d)
+    (a .args .va .now) (a .args .vb .now) (a .args .vd .now) (x .last .1 .1 .1 .1 .0) (y .last .1 .1 .1 .1 .1 .1 .1 .1 .0) (z .last .1 .1 .1 .1 .0) (x .last .1 .1 .1 .1 .1 .0) (cond (a .args .same) (x .last .1 .1 .1 .1 .1 .0) (y .last .1 .1 .1 .1 .1 .1 .1 .1 .1 .0)) (z .last .1 .1 .1 .1 .1 .0)
+
+-- 13, and 14 of each register
+abbrev differ : tie.After-as-destination → Bool
+differ c = lanesDiffer (c .before .before .before .before .before .before .before .before .before .before .before .before .as-source .result) (c .before .before .before .before .before .second-source .result) (c .as-destination .result)
+
+abbrev first-beyond : tie.After-as-destination → Bool
+first-beyond c = let a = c .before .before .before .before .before .before .before .before .before .before .before .before .before .before .before .before .before .before .before .before .before .before .before .args in let x = c .before .before .before .before .before .before .before .before .before .before .before .before .as-source in beyond (a .len) (x .result) (a .a .width) (x .last .1 .1 .1 .1 .1 .0)
+
+abbrev other-beyond : tie.After-as-destination → Bool
+other-beyond c = let a = c .before .before .before .before .before .before .before .before .before .before .before .before .before .before .before .before .before .before .before .before .before .before .before .args in let x = c .before .before .before .before .before .before .before .before .before .before .before .before .as-source in let y = c .before .before .before .before .before .second-source in beyond (a .len) (y .result) (a .b .width) (cond (a .same) (x .last .1 .1 .1 .1 .1 .0) (y .last .1 .1 .1 .1 .1 .1 .1 .1 .1 .0))
+
+abbrev target-beyond : tie.After-as-destination → Bool
+target-beyond c = let a = c .before .before .before .before .before .before .before .before .before .before .before .before .before .before .before .before .before .before .before .before .before .before .before .args in let z = c .as-destination in beyond (a .len) (z .result) (a .d .width) (z .last .1 .1 .1 .1 .1 .0)
+
+-- an operand refuses
+halted : (c : tie.After-as-destination) (r : Checked) (v : Refusal) → r .why ≡ Because v
+    → ((u : Why) → u ≡ firstOf (after false (differ c) (first-beyond c) (other-beyond c) (target-beyond c)) → u ≡ Because v) → Told c r
+halted c =
+    let a = c .before .before .before .before .before .before .before .before .before .before .before .before .before .before .before .before .before .before .before .before .before .before .before in
+    stopped _ _ _ _ _ _ _ _ _ _ _ _ _ _ _ _ _ _ (a .pre .0 .0 .1) (a .pre .1 .1 .0 .0) (a .pre .1 .1 .0 .1 .0) (a .pre .1 .1 .0 .1 .1) (c .before .before .before .before .before .before .before .before .before .before .before .before .as-source .result) (c .before .before .before .before .before .second-source .result) (c .as-destination .result)
+    (first-taken (c .before .before .before .before .before .before .before .before .before .before .before .before)) (second-taken (c .before .before .before .before .before)) (c .as-destination .ensures) (no-states (c .before .before .before .before .before .before .before .before .before .before .before .before .before .before .before .before .before .before .before .before)) (no-widths (c .before .before .before .before .before .before .before .before .before .before .before .before .before .before .before .before .before .before))
+
+-- no check refuses
+passed : (c : tie.After-as-destination) → differ c ≡ false → first-beyond c ≡ false → other-beyond c ≡ false → target-beyond c ≡ false
+    → (r : Checked) → r ≡ record { why = Nothing; first = c .before .before .before .before .before .before .before .before .before .before .before .before .as-source .result; second = c .before .before .before .before .before .second-source .result; destination = c .as-destination .result } → Told c r
+passed c l p q s =
+    let a = c .before .before .before .before .before .before .before .before .before .before .before .before .before .before .before .before .before .before .before .before .before .before .before in
+    let x = c .before .before .before .before .before .before .before .before .before .before .before .before .as-source in
+    let y = c .before .before .before .before .before .second-source in
+    cleared _ _ _ _ _ _ _ _ _ _ _ _ _ _ _ _ _ _ (a .pre .0 .0 .1) (a .pre .1 .1 .0 .0) (a .pre .1 .1 .0 .1 .0) (a .pre .1 .1 .0 .1 .1) (x .result) (y .result) (c .as-destination .result)
+    (first-taken (c .before .before .before .before .before .before .before .before .before .before .before .before)) (second-taken (c .before .before .before .before .before)) (c .as-destination .ensures) (no-states (c .before .before .before .before .before .before .before .before .before .before .before .before .before .before .before .before .before .before .before .before)) (no-widths (c .before .before .before .before .before .before .before .before .before .before .before .before .before .before .before .before .before .before)) l p q s
+    (λ t. (y .ensures .1 .1 t, λ k. listedIn (y .ensures .1 .1 t k) (cond (t k) (x .last .1 .1 .1 .1 .1 .0) (y .last .1 .1 .1 .1 .1 .1 .1 .1 .1 .0))))
+
+-- the arrays of parts keep their length
+long : (c : tie.After-as-destination) → let x = c .before .before .before .before .before .before .before .before .before .before .before .before in let y = c .before .before .before .before .before .second-source in
+    (length (x .as-source .last .1 .1 .1 .1 .1 .0) ≡ 64) × ((length (y .last .1 .1 .1 .1 .1 .1 .1 .1 .1 .0) ≡ 64) × (length (c .as-destination .last .1 .1 .1 .1 .1 .0) ≡ 64))
+long c = (first-taken (c .before .before .before .before .before .before .before .before .before .before .before .before) .long, (c .before .before .before .before .before .second-source .ensures .1 .0, c .as-destination .ensures .long))
 
 why-states-requires : tie.Need-why-states-requires
 why-states-requires c κs = search needs
@@ -77,7 +135,8 @@ returns : tie.Need-returns
 returns c =
     let w = c .before .before .before .why-states in
     let e = c .before .enum-told2 .given .1 in
-    (turned-down (c .before .before .before .before .args .vl) (c .before .before .before .before .args .len) (c .before .before .before .before .args .same) (patternAt (c .before .before .before .before .args .shapes .now) (c .before .before .before .before .args .places .now) (c .before .before .before .before .args .i)) (patternAt (c .before .before .before .before .args .shapes .now) (c .before .before .before .before .args .places .now) (c .before .before .before .before .args .j)) (patternAt (c .before .before .before .before .args .shapes .now) (c .before .before .before .before .args .places .now) (c .before .before .before .before .args .t)) (c .before .before .before .before .args .a) (c .before .before .before .before .args .b) (c .before .before .before .before .args .d) (c .before .before .before .before .args .va .now) (c .before .before .before .before .args .vb .now) (c .before .before .before .before .args .vd .now) (c .before .before .before .before .args .va .now) (c .before .before .before .before .args .vb .now) (c .before .before .before .before .args .vd .now) (c .before .before .before .before .args .xs .now) (c .before .before .before .before .args .ys .now) (c .before .before .before .before .args .zs .now) (c .refused .result) _ (c .refused .ensures ∙ e) (λ la lb ld memory p q s t. states-stop (c .before .before .before .before .args .vl) memory (viewOf (patternAt (c .before .before .before .before .args .shapes .now) (c .before .before .before .before .args .places .now) (c .before .before .before .before .args .i)) la (c .before .before .before .before .args .va .now) (c .before .before .before .before .args .a)) (viewOf (patternAt (c .before .before .before .before .args .shapes .now) (c .before .before .before .before .args .places .now) (c .before .before .before .before .args .j)) lb (c .before .before .before .before .args .vb .now) (c .before .before .before .before .args .b)) (viewOf (patternAt (c .before .before .before .before .args .shapes .now) (c .before .before .before .before .args .places .now) (c .before .before .before .before .args .t)) ld (c .before .before .before .before .args .vd .now) (c .before .before .before .before .args .d)) (w .result) (w .ensures) e ∙ e), c .before .before .before .before .pre .1 .0)
+    let a = c .before .before .before .before .args in
+    (turned-down _ _ _ _ _ _ _ _ _ _ _ _ _ _ _ _ _ _ (c .refused .result) _ (c .refused .ensures ∙ e) (λ la lb ld memory p q s t. states-stop (a .vl) memory (viewOf (patternAt (a .shapes .now) (a .places .now) (a .i)) la (a .va .now) (a .a)) (viewOf (patternAt (a .shapes .now) (a .places .now) (a .j)) lb (a .vb .now) (a .b)) (viewOf (patternAt (a .shapes .now) (a .places .now) (a .t)) ld (a .vd .now) (a .d)) (w .result) (w .ensures) e ∙ e), c .before .before .before .before .pre .1 .0)
 
 widths-differ-requires : tie.Need-widths-differ-requires
 widths-differ-requires c κs = search needs
@@ -87,70 +146,71 @@ refused-requires-2 c κs = search needs
 
 returns-2 : tie.Need-returns-2
 returns-2 c =
-    (turned-down (c .before .before .before .before .before .before .args .vl) (c .before .before .before .before .before .before .args .len) (c .before .before .before .before .before .before .args .same) (patternAt (c .before .before .before .before .before .before .args .shapes .now) (c .before .before .before .before .before .before .args .places .now) (c .before .before .before .before .before .before .args .i)) (patternAt (c .before .before .before .before .before .before .args .shapes .now) (c .before .before .before .before .before .before .args .places .now) (c .before .before .before .before .before .before .args .j)) (patternAt (c .before .before .before .before .before .before .args .shapes .now) (c .before .before .before .before .before .before .args .places .now) (c .before .before .before .before .before .before .args .t)) (c .before .before .before .before .before .before .args .a) (c .before .before .before .before .before .before .args .b) (c .before .before .before .before .before .before .args .d) (c .before .before .before .before .before .before .args .va .now) (c .before .before .before .before .before .before .args .vb .now) (c .before .before .before .before .before .before .args .vd .now) (c .before .before .before .before .before .before .args .va .now) (c .before .before .before .before .before .before .args .vb .now) (c .before .before .before .before .before .before .args .vd .now) (c .before .before .before .before .before .before .args .xs .now) (c .before .before .before .before .before .before .args .ys .now) (c .before .before .before .before .before .before .args .zs .now) (c .refused2 .result) _ (c .refused2 .ensures) (λ la lb ld memory p q s t. widths-stop (c .before .before .before .before .before .before .args .vl) memory (viewOf (patternAt (c .before .before .before .before .before .before .args .shapes .now) (c .before .before .before .before .before .before .args .places .now) (c .before .before .before .before .before .before .args .i)) la (c .before .before .before .before .before .before .args .va .now) (c .before .before .before .before .before .before .args .a)) (viewOf (patternAt (c .before .before .before .before .before .before .args .shapes .now) (c .before .before .before .before .before .before .args .places .now) (c .before .before .before .before .before .before .args .j)) lb (c .before .before .before .before .before .before .args .vb .now) (c .before .before .before .before .before .before .args .b)) (viewOf (patternAt (c .before .before .before .before .before .before .args .shapes .now) (c .before .before .before .before .before .before .args .places .now) (c .before .before .before .before .before .before .args .t)) ld (c .before .before .before .before .before .before .args .vd .now) (c .before .before .before .before .before .before .args .d)) (no-states (c .before .before .before)) (sym (c .before .before .widths-differ .ensures) ∙ c .before .if1 .taken)), c .before .before .before .before .before .before .pre .1 .0)
+    let a = c .before .before .before .before .before .before .args in
+    (turned-down _ _ _ _ _ _ _ _ _ _ _ _ _ _ _ _ _ _ (c .refused2 .result) _ (c .refused2 .ensures) (λ la lb ld memory p q s t. widths-stop (a .vl) memory (viewOf (patternAt (a .shapes .now) (a .places .now) (a .i)) la (a .va .now) (a .a)) (viewOf (patternAt (a .shapes .now) (a .places .now) (a .j)) lb (a .vb .now) (a .b)) (viewOf (patternAt (a .shapes .now) (a .places .now) (a .t)) ld (a .vd .now) (a .d)) (no-states (c .before .before .before)) (sym (c .before .before .widths-differ .ensures) ∙ c .before .if1 .taken)), c .before .before .before .before .before .before .pre .1 .0)
 
 lanes-requires : tie.Need-lanes-requires
 lanes-requires c κs = let a = c .before .before .before .before .before in (a .pre .0 .0 .1, a .pre .1 .1 .0 .0 .good (replicate 64 0) refl .width)
 
-mul-as-operand : tie.Need-mul-as-operand
-mul-as-operand c = search needs
+mul-as-source : tie.Need-mul-as-source
+mul-as-source c = search needs
 
-index-1-as-operand : tie.Need-index-1-as-operand
-index-1-as-operand c = search needs
+index-1-as-source : tie.Need-index-1-as-source
+index-1-as-source c = search needs
 
-mul-as-operand-2 : tie.Need-mul-as-operand-2
-mul-as-operand-2 c = search needs
+mul-as-source-2 : tie.Need-mul-as-source-2
+mul-as-source-2 c = search needs
 
-index-1-as-operand-2 : tie.Need-index-1-as-operand-2
-index-1-as-operand-2 c = search needs
+index-1-as-source-2 : tie.Need-index-1-as-source-2
+index-1-as-source-2 c = search needs
 
-as-operand-requires : tie.Need-as-operand-requires
-as-operand-requires c κs =
+as-source-requires : tie.Need-as-source-requires
+as-source-requires c κs =
     let a = c .before .before .before .before .before .before .before .before .before .before in
     ((c .before .before .before .before .lanes .ensures .1, a .pre .1 .0 .0), (ready (a .args .vl) (patternAt (a .args .shapes .now) (a .args .places .now) (a .args .i)) (a .args .va .now) (a .args .a) (a .pre .1 .1 .0 .0), a .pre .1 .1 .0 .0 .remembers))
 
-mul-second-operand : tie.Need-mul-second-operand
-mul-second-operand c = omega (arith, c .before .before .before .before .before .before .before .before .before .before .before .before .before .pre .0 .1 .1 .0)
+mul-second-source : tie.Need-mul-second-source
+mul-second-source c = omega (arith, c .before .before .before .before .before .before .before .before .before .before .before .before .before .pre .0 .1 .1 .0)
 
-index-1-second-operand : tie.Need-index-1-second-operand
-index-1-second-operand c = c .before .before .before .before .before .before .before .before .before .before .before .before .before .pre .0 .1 .1 .0
+index-1-second-source : tie.Need-index-1-second-source
+index-1-second-source c = c .before .before .before .before .before .before .before .before .before .before .before .before .before .pre .0 .1 .1 .0
 
-mul-second-operand-2 : tie.Need-mul-second-operand-2
-mul-second-operand-2 c = omega (arith, c .before .before .before .before .before .before .before .before .before .before .before .before .before .before .pre .0 .1 .1 .0)
+mul-second-source-2 : tie.Need-mul-second-source-2
+mul-second-source-2 c = omega (arith, c .before .before .before .before .before .before .before .before .before .before .before .before .before .before .pre .0 .1 .1 .0)
 
-index-1-second-operand-2 : tie.Need-index-1-second-operand-2
-index-1-second-operand-2 c = c .before .before .before .before .before .before .before .before .before .before .before .before .before .before .pre .0 .1 .1 .0
+index-1-second-source-2 : tie.Need-index-1-second-source-2
+index-1-second-source-2 c = c .before .before .before .before .before .before .before .before .before .before .before .before .before .before .pre .0 .1 .1 .0
 
-second-operand-requires : tie.Need-second-operand-requires
-second-operand-requires c κs =
+second-source-requires : tie.Need-second-source-requires
+second-source-requires c κs =
     let a = c .before .before .before .before .before .before .before .before .before .before .before .before .before .before .before .before .before in
-    let x = c .before .before .before .before .before .before .as-operand in
+    let x = c .before .before .before .before .before .before .as-source in
     let m = c .before .before .before .before .before .before .before .before .before .before .before .lanes .result in (
       (c .before .before .before .before .before .before .before .before .before .before .before .lanes .ensures .1, a .pre .1 .0 .1 .0),
       (
         (ready (a .args .vl) (patternAt (a .args .shapes .now) (a .args .places .now) (a .args .j)) (a .args .vb .now) (a .args .b) (a .pre .1 .1 .0 .1 .0), a .pre .1 .1 .0 .1 .0 .remembers),
         λ t.
             let e = a .pre .1 .1 .1 t in
-            subst (λ q. Taken (patternAt (a .args .shapes .now) (a .args .places .now) (a .args .j)) (a .args .vb .now) q m (q .valid) (x .last .1 .1 .1 .1 .1 .0) (x .last .1 .1 .1 .1 .1 .1 .0) (x .result)) (sym (e .0))
-            (subst (λ v. Taken (patternAt (a .args .shapes .now) (a .args .places .now) (a .args .j)) v (a .args .a) m (a .args .a .valid) (x .last .1 .1 .1 .1 .1 .0) (x .last .1 .1 .1 .1 .1 .1 .0) (x .result)) (sym (e .1 .1))
-            (subst (λ n. Taken (patternAt (a .args .shapes .now) (a .args .places .now) n) (a .args .va .now) (a .args .a) m (a .args .a .valid) (x .last .1 .1 .1 .1 .1 .0) (x .last .1 .1 .1 .1 .1 .1 .0) (x .result)) (sym (e .1 .0)) (x .ensures))),
+            subst (λ q. Taken (patternAt (a .args .shapes .now) (a .args .places .now) (a .args .j)) (a .args .vb .now) q m (q .valid) (x .last .1 .1 .1 .1 .0) (x .last .1 .1 .1 .1 .1 .0) (x .result)) (sym (e .0))
+            (subst (λ v. Taken (patternAt (a .args .shapes .now) (a .args .places .now) (a .args .j)) v (a .args .a) m (a .args .a .valid) (x .last .1 .1 .1 .1 .0) (x .last .1 .1 .1 .1 .1 .0) (x .result)) (sym (e .1 .1))
+            (subst (λ n. Taken (patternAt (a .args .shapes .now) (a .args .places .now) n) (a .args .va .now) (a .args .a) m (a .args .a .valid) (x .last .1 .1 .1 .1 .0) (x .last .1 .1 .1 .1 .1 .0) (x .result)) (sym (e .1 .0)) (x .ensures))),
       ),
     )
 
-mul-as-operand-3 : tie.Need-mul-as-operand-3
-mul-as-operand-3 c = omega (arith, c .before .before .before .before .before .before .before .before .before .before .before .before .before .before .before .before .before .before .pre .0 .1 .1 .1)
+mul-as-destination : tie.Need-mul-as-destination
+mul-as-destination c = omega (arith, c .before .before .before .before .before .before .before .before .before .before .before .before .before .before .before .before .before .before .pre .0 .1 .1 .1)
 
-index-1-as-operand-3 : tie.Need-index-1-as-operand-3
-index-1-as-operand-3 c = c .before .before .before .before .before .before .before .before .before .before .before .before .before .before .before .before .before .before .pre .0 .1 .1 .1
+index-1-as-destination : tie.Need-index-1-as-destination
+index-1-as-destination c = c .before .before .before .before .before .before .before .before .before .before .before .before .before .before .before .before .before .before .pre .0 .1 .1 .1
 
-mul-as-operand-4 : tie.Need-mul-as-operand-4
-mul-as-operand-4 c = omega (arith, c .before .before .before .before .before .before .before .before .before .before .before .before .before .before .before .before .before .before .before .pre .0 .1 .1 .1)
+mul-as-destination-2 : tie.Need-mul-as-destination-2
+mul-as-destination-2 c = omega (arith, c .before .before .before .before .before .before .before .before .before .before .before .before .before .before .before .before .before .before .before .pre .0 .1 .1 .1)
 
-index-1-as-operand-4 : tie.Need-index-1-as-operand-4
-index-1-as-operand-4 c = c .before .before .before .before .before .before .before .before .before .before .before .before .before .before .before .before .before .before .before .pre .0 .1 .1 .1
+index-1-as-destination-2 : tie.Need-index-1-as-destination-2
+index-1-as-destination-2 c = c .before .before .before .before .before .before .before .before .before .before .before .before .before .before .before .before .before .before .before .pre .0 .1 .1 .1
 
-as-operand-requires-2 : tie.Need-as-operand-requires-2
-as-operand-requires-2 c κs =
+as-destination-requires : tie.Need-as-destination-requires
+as-destination-requires c κs =
     let a = c .before .before .before .before .before .before .before .before .before .before .before .before .before .before .before .before .before .before .before .before .before .before in
     ((first-few (c .before .before .before .before .before .before .before .before .before .before .before), a .pre .1 .0 .1 .1), (ready (a .args .vl) (patternAt (a .args .shapes .now) (a .args .places .now) (a .args .t)) (a .args .vd .now) (a .args .d) (a .pre .1 .1 .0 .1 .1), a .pre .1 .1 .0 .1 .1 .remembers))
 
@@ -161,41 +221,50 @@ refused-requires-3 : tie.Need-refused-requires-3
 refused-requires-3 c κs = search needs
 
 returns-3 : tie.Need-returns-3
-returns-3 c = (stopped (c .before .before .before .before .before .before .before .before .before .before .before .before .before .before .before .before .before .before .before .before .before .before .before .before .before .before .args .vl) (c .before .before .before .before .before .before .before .before .before .before .before .before .before .before .before .before .before .before .before .before .before .before .before .before .before .before .args .len) (c .before .before .before .before .before .before .before .before .before .before .before .before .before .before .before .before .before .before .before .before .before .before .before .before .before .before .args .same) (patternAt (c .before .before .before .before .before .before .before .before .before .before .before .before .before .before .before .before .before .before .before .before .before .before .before .before .before .before .args .shapes .now) (c .before .before .before .before .before .before .before .before .before .before .before .before .before .before .before .before .before .before .before .before .before .before .before .before .before .before .args .places .now) (c .before .before .before .before .before .before .before .before .before .before .before .before .before .before .before .before .before .before .before .before .before .before .before .before .before .before .args .i)) (patternAt (c .before .before .before .before .before .before .before .before .before .before .before .before .before .before .before .before .before .before .before .before .before .before .before .before .before .before .args .shapes .now) (c .before .before .before .before .before .before .before .before .before .before .before .before .before .before .before .before .before .before .before .before .before .before .before .before .before .before .args .places .now) (c .before .before .before .before .before .before .before .before .before .before .before .before .before .before .before .before .before .before .before .before .before .before .before .before .before .before .args .j)) (patternAt (c .before .before .before .before .before .before .before .before .before .before .before .before .before .before .before .before .before .before .before .before .before .before .before .before .before .before .args .shapes .now) (c .before .before .before .before .before .before .before .before .before .before .before .before .before .before .before .before .before .before .before .before .before .before .before .before .before .before .args .places .now) (c .before .before .before .before .before .before .before .before .before .before .before .before .before .before .before .before .before .before .before .before .before .before .before .before .before .before .args .t)) (c .before .before .before .before .before .before .before .before .before .before .before .before .before .before .before .before .before .before .before .before .before .before .before .before .before .before .args .a) (c .before .before .before .before .before .before .before .before .before .before .before .before .before .before .before .before .before .before .before .before .before .before .before .before .before .before .args .b) (c .before .before .before .before .before .before .before .before .before .before .before .before .before .before .before .before .before .before .before .before .before .before .before .before .before .before .args .d) (c .before .before .before .before .before .before .before .before .before .before .before .before .before .before .before .before .before .before .before .before .before .before .before .before .before .before .args .va .now) (c .before .before .before .before .before .before .before .before .before .before .before .before .before .before .before .before .before .before .before .before .before .before .before .before .before .before .args .vb .now) (c .before .before .before .before .before .before .before .before .before .before .before .before .before .before .before .before .before .before .before .before .before .before .before .before .before .before .args .vd .now) (c .before .before .before .before .before .before .before .before .before .before .before .before .before .before .before .as-operand .last .1 .1 .1 .1 .1 .0) (c .before .before .before .before .before .before .before .before .second-operand .last .1 .1 .1 .1 .1 .1 .1 .1 .1 .0) (c .before .before .before .as-operand2 .last .1 .1 .1 .1 .1 .0) (c .before .before .before .before .before .before .before .before .before .before .before .before .before .before .before .as-operand .last .1 .1 .1 .1 .1 .1 .0) (c .before .before .before .before .before .before .before .before .second-operand .last .1 .1 .1 .1 .1 .1 .1 .1 .1 .1 .0) (c .before .before .before .as-operand2 .last .1 .1 .1 .1 .1 .1 .0) (c .before .before .before .before .before .before .before .before .before .before .before .before .before .before .before .before .before .before .before .before .before .before .before .before .before .before .pre .0 .0 .1) (c .before .before .before .before .before .before .before .before .before .before .before .before .before .before .before .before .before .before .before .before .before .before .before .before .before .before .pre .1 .1 .0 .0) (c .before .before .before .before .before .before .before .before .before .before .before .before .before .before .before .before .before .before .before .before .before .before .before .before .before .before .pre .1 .1 .0 .1 .0) (c .before .before .before .before .before .before .before .before .before .before .before .before .before .before .before .before .before .before .before .before .before .before .before .before .before .before .pre .1 .1 .0 .1 .1) (c .before .before .before .before .before .before .before .before .before .before .before .before .before .before .before .as-operand .result) (c .before .before .before .before .before .before .before .before .second-operand .result) (c .before .before .before .as-operand2 .result) (first-taken (c .before .before .before .before .before .before .before .before .before .before .before .before .before .before .before)) (second-taken (c .before .before .before .before .before .before .before .before)) (c .before .before .before .as-operand2 .ensures) (no-states (c .before .before .before .before .before .before .before .before .before .before .before .before .before .before .before .before .before .before .before .before .before .before .before)) (no-widths (c .before .before .before .before .before .before .before .before .before .before .before .before .before .before .before .before .before .before .before .before .before)) (c .refused3 .result) _ (c .refused3 .ensures) (λ u f. counts-stop u _ _ _ _ f (sym (c .before .before .lanes-differ .ensures) ∙ c .before .if2 .taken)), (first-taken (c .before .before .before .before .before .before .before .before .before .before .before .before .before .before .before) .long, (second-taken (c .before .before .before .before .before .before .before .before) .long, c .before .before .before .as-operand2 .ensures .long)))
+returns-3 c =
+    let o = c .before .before .before in
+    (halted o (c .refused3 .result) _ (c .refused3 .ensures) (λ u f. counts-stop u _ _ _ _ f (sym (c .before .before .lanes-differ .ensures) ∙ c .before .if2 .taken)), long o)
 
 outside-requires : tie.Need-outside-requires
-outside-requires c κs = let a = c .before .before .before .before .before .before .before .before .before .before .before .before .before .before .before .before .before .before .before .before .before .before .before .before .before .before in ((first-few (c .before .before .before .before .before .before .before .before .before .before .before .before .before .before .before), width-range (a .args .a .width) (a .pre .1 .1 .0 .0 .good (replicate 64 0) refl .width) .1), first-taken (c .before .before .before .before .before .before .before .before .before .before .before .before .before .before .before) .near)
+outside-requires c κs = let a = c .before .before .before .before .before .before .before .before .before .before .before .before .before .before .before .before .before .before .before .before .before .before .before .before .before .before in (width-range _ (a .pre .1 .1 .0 .0 .good (replicate 64 0) refl .width) .1, first-taken (c .before .before .before .before .before .before .before .before .before .before .before .before .before .before .before) .parts)
 
 refused-requires-4 : tie.Need-refused-requires-4
 refused-requires-4 c κs = search needs
 
 returns-4 : tie.Need-returns-4
-returns-4 c = (stopped (c .before .before .before .before .before .before .before .before .before .before .before .before .before .before .before .before .before .before .before .before .before .before .before .before .before .before .before .before .before .args .vl) (c .before .before .before .before .before .before .before .before .before .before .before .before .before .before .before .before .before .before .before .before .before .before .before .before .before .before .before .before .before .args .len) (c .before .before .before .before .before .before .before .before .before .before .before .before .before .before .before .before .before .before .before .before .before .before .before .before .before .before .before .before .before .args .same) (patternAt (c .before .before .before .before .before .before .before .before .before .before .before .before .before .before .before .before .before .before .before .before .before .before .before .before .before .before .before .before .before .args .shapes .now) (c .before .before .before .before .before .before .before .before .before .before .before .before .before .before .before .before .before .before .before .before .before .before .before .before .before .before .before .before .before .args .places .now) (c .before .before .before .before .before .before .before .before .before .before .before .before .before .before .before .before .before .before .before .before .before .before .before .before .before .before .before .before .before .args .i)) (patternAt (c .before .before .before .before .before .before .before .before .before .before .before .before .before .before .before .before .before .before .before .before .before .before .before .before .before .before .before .before .before .args .shapes .now) (c .before .before .before .before .before .before .before .before .before .before .before .before .before .before .before .before .before .before .before .before .before .before .before .before .before .before .before .before .before .args .places .now) (c .before .before .before .before .before .before .before .before .before .before .before .before .before .before .before .before .before .before .before .before .before .before .before .before .before .before .before .before .before .args .j)) (patternAt (c .before .before .before .before .before .before .before .before .before .before .before .before .before .before .before .before .before .before .before .before .before .before .before .before .before .before .before .before .before .args .shapes .now) (c .before .before .before .before .before .before .before .before .before .before .before .before .before .before .before .before .before .before .before .before .before .before .before .before .before .before .before .before .before .args .places .now) (c .before .before .before .before .before .before .before .before .before .before .before .before .before .before .before .before .before .before .before .before .before .before .before .before .before .before .before .before .before .args .t)) (c .before .before .before .before .before .before .before .before .before .before .before .before .before .before .before .before .before .before .before .before .before .before .before .before .before .before .before .before .before .args .a) (c .before .before .before .before .before .before .before .before .before .before .before .before .before .before .before .before .before .before .before .before .before .before .before .before .before .before .before .before .before .args .b) (c .before .before .before .before .before .before .before .before .before .before .before .before .before .before .before .before .before .before .before .before .before .before .before .before .before .before .before .before .before .args .d) (c .before .before .before .before .before .before .before .before .before .before .before .before .before .before .before .before .before .before .before .before .before .before .before .before .before .before .before .before .before .args .va .now) (c .before .before .before .before .before .before .before .before .before .before .before .before .before .before .before .before .before .before .before .before .before .before .before .before .before .before .before .before .before .args .vb .now) (c .before .before .before .before .before .before .before .before .before .before .before .before .before .before .before .before .before .before .before .before .before .before .before .before .before .before .before .before .before .args .vd .now) (c .before .before .before .before .before .before .before .before .before .before .before .before .before .before .before .before .before .before .as-operand .last .1 .1 .1 .1 .1 .0) (c .before .before .before .before .before .before .before .before .before .before .before .second-operand .last .1 .1 .1 .1 .1 .1 .1 .1 .1 .0) (c .before .before .before .before .before .before .as-operand2 .last .1 .1 .1 .1 .1 .0) (c .before .before .before .before .before .before .before .before .before .before .before .before .before .before .before .before .before .before .as-operand .last .1 .1 .1 .1 .1 .1 .0) (c .before .before .before .before .before .before .before .before .before .before .before .second-operand .last .1 .1 .1 .1 .1 .1 .1 .1 .1 .1 .0) (c .before .before .before .before .before .before .as-operand2 .last .1 .1 .1 .1 .1 .1 .0) (c .before .before .before .before .before .before .before .before .before .before .before .before .before .before .before .before .before .before .before .before .before .before .before .before .before .before .before .before .before .pre .0 .0 .1) (c .before .before .before .before .before .before .before .before .before .before .before .before .before .before .before .before .before .before .before .before .before .before .before .before .before .before .before .before .before .pre .1 .1 .0 .0) (c .before .before .before .before .before .before .before .before .before .before .before .before .before .before .before .before .before .before .before .before .before .before .before .before .before .before .before .before .before .pre .1 .1 .0 .1 .0) (c .before .before .before .before .before .before .before .before .before .before .before .before .before .before .before .before .before .before .before .before .before .before .before .before .before .before .before .before .before .pre .1 .1 .0 .1 .1) (c .before .before .before .before .before .before .before .before .before .before .before .before .before .before .before .before .before .before .as-operand .result) (c .before .before .before .before .before .before .before .before .before .before .before .second-operand .result) (c .before .before .before .before .before .before .as-operand2 .result) (first-taken (c .before .before .before .before .before .before .before .before .before .before .before .before .before .before .before .before .before .before)) (second-taken (c .before .before .before .before .before .before .before .before .before .before .before)) (c .before .before .before .before .before .before .as-operand2 .ensures) (no-states (c .before .before .before .before .before .before .before .before .before .before .before .before .before .before .before .before .before .before .before .before .before .before .before .before .before .before)) (no-widths (c .before .before .before .before .before .before .before .before .before .before .before .before .before .before .before .before .before .before .before .before .before .before .before .before)) (c .refused4 .result) _ (c .refused4 .ensures) (λ u f. first-outside u _ _ _ _ f (sym (c .before .before .before .before .before .lanes-differ .ensures) ∙ c .before .before .before .before .if2 .left) (sym (c .before .before .outside .ensures) ∙ c .before .if3 .taken)), (first-taken (c .before .before .before .before .before .before .before .before .before .before .before .before .before .before .before .before .before .before) .long, (second-taken (c .before .before .before .before .before .before .before .before .before .before .before) .long, c .before .before .before .before .before .before .as-operand2 .ensures .long)))
+returns-4 c =
+    let o = c .before .before .before .before .before .before in
+    (halted o (c .refused4 .result) _ (c .refused4 .ensures) (λ u f. first-outside u _ _ _ _ f (sym (c .before .before .before .before .before .lanes-differ .ensures) ∙ c .before .before .before .before .if2 .left) (sym (c .before .before .outside .ensures) ∙ c .before .if3 .taken)), long o)
 
-outside-requires-2 : tie.Need-outside-requires-2
-outside-requires-2 c κs = let a = c .before .before .before .before .before .before .before .before .before .before .before .before .before .before .before .before .before .before .before .before .before .before .before .before .before .before .before .before .before in ((second-few (c .before .before .before .before .before .before .before .before .before .before .before), width-range (a .args .b .width) (a .pre .1 .1 .0 .1 .0 .good (replicate 64 0) refl .width) .1), second-taken (c .before .before .before .before .before .before .before .before .before .before .before) .near)
+second-outside-requires : tie.Need-second-outside-requires
+second-outside-requires c κs =
+    let a = c .before .before .before .before .before .before .before .before .before .before .before .before .before .before .before .before .before .before .before .before .before .before .before .before .before .before .before .before .before in
+    let y = c .before .before .before .before .before .before .before .before .before .before .before in (
+      width-range _ (a .pre .1 .1 .0 .1 .0 .good (replicate 64 0) refl .width) .1,
+      λ e. subst (Parts (y .second-source .result .parts)) (ap (λ b. cond b (c .before .before .before .before .before .before .before .before .before .before .before .before .before .before .before .before .before .before .as-source .last .1 .1 .1 .1 .1 .0) (y .second-source .last .1 .1 .1 .1 .1 .1 .1 .1 .1 .0)) e) (second-taken y .parts),
+    )
 
 refused-requires-5 : tie.Need-refused-requires-5
 refused-requires-5 c κs = search needs
 
 returns-5 : tie.Need-returns-5
-returns-5 c = (stopped (c .before .before .before .before .before .before .before .before .before .before .before .before .before .before .before .before .before .before .before .before .before .before .before .before .before .before .before .before .before .before .before .before .args .vl) (c .before .before .before .before .before .before .before .before .before .before .before .before .before .before .before .before .before .before .before .before .before .before .before .before .before .before .before .before .before .before .before .before .args .len) (c .before .before .before .before .before .before .before .before .before .before .before .before .before .before .before .before .before .before .before .before .before .before .before .before .before .before .before .before .before .before .before .before .args .same) (patternAt (c .before .before .before .before .before .before .before .before .before .before .before .before .before .before .before .before .before .before .before .before .before .before .before .before .before .before .before .before .before .before .before .before .args .shapes .now) (c .before .before .before .before .before .before .before .before .before .before .before .before .before .before .before .before .before .before .before .before .before .before .before .before .before .before .before .before .before .before .before .before .args .places .now) (c .before .before .before .before .before .before .before .before .before .before .before .before .before .before .before .before .before .before .before .before .before .before .before .before .before .before .before .before .before .before .before .before .args .i)) (patternAt (c .before .before .before .before .before .before .before .before .before .before .before .before .before .before .before .before .before .before .before .before .before .before .before .before .before .before .before .before .before .before .before .before .args .shapes .now) (c .before .before .before .before .before .before .before .before .before .before .before .before .before .before .before .before .before .before .before .before .before .before .before .before .before .before .before .before .before .before .before .before .args .places .now) (c .before .before .before .before .before .before .before .before .before .before .before .before .before .before .before .before .before .before .before .before .before .before .before .before .before .before .before .before .before .before .before .before .args .j)) (patternAt (c .before .before .before .before .before .before .before .before .before .before .before .before .before .before .before .before .before .before .before .before .before .before .before .before .before .before .before .before .before .before .before .before .args .shapes .now) (c .before .before .before .before .before .before .before .before .before .before .before .before .before .before .before .before .before .before .before .before .before .before .before .before .before .before .before .before .before .before .before .before .args .places .now) (c .before .before .before .before .before .before .before .before .before .before .before .before .before .before .before .before .before .before .before .before .before .before .before .before .before .before .before .before .before .before .before .before .args .t)) (c .before .before .before .before .before .before .before .before .before .before .before .before .before .before .before .before .before .before .before .before .before .before .before .before .before .before .before .before .before .before .before .before .args .a) (c .before .before .before .before .before .before .before .before .before .before .before .before .before .before .before .before .before .before .before .before .before .before .before .before .before .before .before .before .before .before .before .before .args .b) (c .before .before .before .before .before .before .before .before .before .before .before .before .before .before .before .before .before .before .before .before .before .before .before .before .before .before .before .before .before .before .before .before .args .d) (c .before .before .before .before .before .before .before .before .before .before .before .before .before .before .before .before .before .before .before .before .before .before .before .before .before .before .before .before .before .before .before .before .args .va .now) (c .before .before .before .before .before .before .before .before .before .before .before .before .before .before .before .before .before .before .before .before .before .before .before .before .before .before .before .before .before .before .before .before .args .vb .now) (c .before .before .before .before .before .before .before .before .before .before .before .before .before .before .before .before .before .before .before .before .before .before .before .before .before .before .before .before .before .before .before .before .args .vd .now) (c .before .before .before .before .before .before .before .before .before .before .before .before .before .before .before .before .before .before .before .before .before .as-operand .last .1 .1 .1 .1 .1 .0) (c .before .before .before .before .before .before .before .before .before .before .before .before .before .before .second-operand .last .1 .1 .1 .1 .1 .1 .1 .1 .1 .0) (c .before .before .before .before .before .before .before .before .before .as-operand2 .last .1 .1 .1 .1 .1 .0) (c .before .before .before .before .before .before .before .before .before .before .before .before .before .before .before .before .before .before .before .before .before .as-operand .last .1 .1 .1 .1 .1 .1 .0) (c .before .before .before .before .before .before .before .before .before .before .before .before .before .before .second-operand .last .1 .1 .1 .1 .1 .1 .1 .1 .1 .1 .0) (c .before .before .before .before .before .before .before .before .before .as-operand2 .last .1 .1 .1 .1 .1 .1 .0) (c .before .before .before .before .before .before .before .before .before .before .before .before .before .before .before .before .before .before .before .before .before .before .before .before .before .before .before .before .before .before .before .before .pre .0 .0 .1) (c .before .before .before .before .before .before .before .before .before .before .before .before .before .before .before .before .before .before .before .before .before .before .before .before .before .before .before .before .before .before .before .before .pre .1 .1 .0 .0) (c .before .before .before .before .before .before .before .before .before .before .before .before .before .before .before .before .before .before .before .before .before .before .before .before .before .before .before .before .before .before .before .before .pre .1 .1 .0 .1 .0) (c .before .before .before .before .before .before .before .before .before .before .before .before .before .before .before .before .before .before .before .before .before .before .before .before .before .before .before .before .before .before .before .before .pre .1 .1 .0 .1 .1) (c .before .before .before .before .before .before .before .before .before .before .before .before .before .before .before .before .before .before .before .before .before .as-operand .result) (c .before .before .before .before .before .before .before .before .before .before .before .before .before .before .second-operand .result) (c .before .before .before .before .before .before .before .before .before .as-operand2 .result) (first-taken (c .before .before .before .before .before .before .before .before .before .before .before .before .before .before .before .before .before .before .before .before .before)) (second-taken (c .before .before .before .before .before .before .before .before .before .before .before .before .before .before)) (c .before .before .before .before .before .before .before .before .before .as-operand2 .ensures) (no-states (c .before .before .before .before .before .before .before .before .before .before .before .before .before .before .before .before .before .before .before .before .before .before .before .before .before .before .before .before .before)) (no-widths (c .before .before .before .before .before .before .before .before .before .before .before .before .before .before .before .before .before .before .before .before .before .before .before .before .before .before .before)) (c .refused5 .result) _ (c .refused5 .ensures) (λ u f. second-outside u _ _ _ _ f (sym (c .before .before .before .before .before .before .before .before .lanes-differ .ensures) ∙ c .before .before .before .before .before .before .before .if2 .left) (sym (c .before .before .before .before .before .outside .ensures) ∙ c .before .before .before .before .if3 .left) (sym (c .before .before .outside2 .ensures) ∙ c .before .if4 .taken)), (first-taken (c .before .before .before .before .before .before .before .before .before .before .before .before .before .before .before .before .before .before .before .before .before) .long, (second-taken (c .before .before .before .before .before .before .before .before .before .before .before .before .before .before) .long, c .before .before .before .before .before .before .before .before .before .as-operand2 .ensures .long)))
+returns-5 c =
+    let o = c .before .before .before .before .before .before .before .before .before in
+    (halted o (c .refused5 .result) _ (c .refused5 .ensures) (λ u f. second-outside u _ _ _ _ f (sym (c .before .before .before .before .before .before .before .before .lanes-differ .ensures) ∙ c .before .before .before .before .before .before .before .if2 .left) (sym (c .before .before .before .before .before .outside .ensures) ∙ c .before .before .before .before .if3 .left) (second-lies (c .before .before) ∙ c .before .if4 .taken)), long o)
 
-outside-requires-3 : tie.Need-outside-requires-3
-outside-requires-3 c κs =
-    let a = c .before .before .before .before .before .before .before .before .before .before .before .before .before .before .before .before .before .before .before .before .before .before .before .before .before .before .before .before .before .before .before .before in
-    let z = c .before .before .before .before .before .before .before .before .before .as-operand2 in
-    let f = target-few _ _ _ (z .ensures .operates (replicate 64 0)) in
-    ((omega (arith, f, first-few (c .before .before .before .before .before .before .before .before .before .before .before .before .before .before .before .before .before .before .before .before .before)), width-range (a .args .d .width) (a .pre .1 .1 .0 .1 .1 .good (replicate 64 0) refl .width) .1), z .ensures .near)
+outside-requires-2 : tie.Need-outside-requires-2
+outside-requires-2 c κs = let a = c .before .before .before .before .before .before .before .before .before .before .before .before .before .before .before .before .before .before .before .before .before .before .before .before .before .before .before .before .before .before .before .before in (width-range _ (a .pre .1 .1 .0 .1 .1 .good (replicate 64 0) refl .width) .1, c .before .before .before .before .before .before .before .before .before .as-destination .ensures .parts)
 
 refused-requires-6 : tie.Need-refused-requires-6
 refused-requires-6 c κs = search needs
 
 returns-6 : tie.Need-returns-6
-returns-6 c = (stopped (c .before .before .before .before .before .before .before .before .before .before .before .before .before .before .before .before .before .before .before .before .before .before .before .before .before .before .before .before .before .before .before .before .before .before .before .args .vl) (c .before .before .before .before .before .before .before .before .before .before .before .before .before .before .before .before .before .before .before .before .before .before .before .before .before .before .before .before .before .before .before .before .before .before .before .args .len) (c .before .before .before .before .before .before .before .before .before .before .before .before .before .before .before .before .before .before .before .before .before .before .before .before .before .before .before .before .before .before .before .before .before .before .before .args .same) (patternAt (c .before .before .before .before .before .before .before .before .before .before .before .before .before .before .before .before .before .before .before .before .before .before .before .before .before .before .before .before .before .before .before .before .before .before .before .args .shapes .now) (c .before .before .before .before .before .before .before .before .before .before .before .before .before .before .before .before .before .before .before .before .before .before .before .before .before .before .before .before .before .before .before .before .before .before .before .args .places .now) (c .before .before .before .before .before .before .before .before .before .before .before .before .before .before .before .before .before .before .before .before .before .before .before .before .before .before .before .before .before .before .before .before .before .before .before .args .i)) (patternAt (c .before .before .before .before .before .before .before .before .before .before .before .before .before .before .before .before .before .before .before .before .before .before .before .before .before .before .before .before .before .before .before .before .before .before .before .args .shapes .now) (c .before .before .before .before .before .before .before .before .before .before .before .before .before .before .before .before .before .before .before .before .before .before .before .before .before .before .before .before .before .before .before .before .before .before .before .args .places .now) (c .before .before .before .before .before .before .before .before .before .before .before .before .before .before .before .before .before .before .before .before .before .before .before .before .before .before .before .before .before .before .before .before .before .before .before .args .j)) (patternAt (c .before .before .before .before .before .before .before .before .before .before .before .before .before .before .before .before .before .before .before .before .before .before .before .before .before .before .before .before .before .before .before .before .before .before .before .args .shapes .now) (c .before .before .before .before .before .before .before .before .before .before .before .before .before .before .before .before .before .before .before .before .before .before .before .before .before .before .before .before .before .before .before .before .before .before .before .args .places .now) (c .before .before .before .before .before .before .before .before .before .before .before .before .before .before .before .before .before .before .before .before .before .before .before .before .before .before .before .before .before .before .before .before .before .before .before .args .t)) (c .before .before .before .before .before .before .before .before .before .before .before .before .before .before .before .before .before .before .before .before .before .before .before .before .before .before .before .before .before .before .before .before .before .before .before .args .a) (c .before .before .before .before .before .before .before .before .before .before .before .before .before .before .before .before .before .before .before .before .before .before .before .before .before .before .before .before .before .before .before .before .before .before .before .args .b) (c .before .before .before .before .before .before .before .before .before .before .before .before .before .before .before .before .before .before .before .before .before .before .before .before .before .before .before .before .before .before .before .before .before .before .before .args .d) (c .before .before .before .before .before .before .before .before .before .before .before .before .before .before .before .before .before .before .before .before .before .before .before .before .before .before .before .before .before .before .before .before .before .before .before .args .va .now) (c .before .before .before .before .before .before .before .before .before .before .before .before .before .before .before .before .before .before .before .before .before .before .before .before .before .before .before .before .before .before .before .before .before .before .before .args .vb .now) (c .before .before .before .before .before .before .before .before .before .before .before .before .before .before .before .before .before .before .before .before .before .before .before .before .before .before .before .before .before .before .before .before .before .before .before .args .vd .now) (c .before .before .before .before .before .before .before .before .before .before .before .before .before .before .before .before .before .before .before .before .before .before .before .before .as-operand .last .1 .1 .1 .1 .1 .0) (c .before .before .before .before .before .before .before .before .before .before .before .before .before .before .before .before .before .second-operand .last .1 .1 .1 .1 .1 .1 .1 .1 .1 .0) (c .before .before .before .before .before .before .before .before .before .before .before .before .as-operand2 .last .1 .1 .1 .1 .1 .0) (c .before .before .before .before .before .before .before .before .before .before .before .before .before .before .before .before .before .before .before .before .before .before .before .before .as-operand .last .1 .1 .1 .1 .1 .1 .0) (c .before .before .before .before .before .before .before .before .before .before .before .before .before .before .before .before .before .second-operand .last .1 .1 .1 .1 .1 .1 .1 .1 .1 .1 .0) (c .before .before .before .before .before .before .before .before .before .before .before .before .as-operand2 .last .1 .1 .1 .1 .1 .1 .0) (c .before .before .before .before .before .before .before .before .before .before .before .before .before .before .before .before .before .before .before .before .before .before .before .before .before .before .before .before .before .before .before .before .before .before .before .pre .0 .0 .1) (c .before .before .before .before .before .before .before .before .before .before .before .before .before .before .before .before .before .before .before .before .before .before .before .before .before .before .before .before .before .before .before .before .before .before .before .pre .1 .1 .0 .0) (c .before .before .before .before .before .before .before .before .before .before .before .before .before .before .before .before .before .before .before .before .before .before .before .before .before .before .before .before .before .before .before .before .before .before .before .pre .1 .1 .0 .1 .0) (c .before .before .before .before .before .before .before .before .before .before .before .before .before .before .before .before .before .before .before .before .before .before .before .before .before .before .before .before .before .before .before .before .before .before .before .pre .1 .1 .0 .1 .1) (c .before .before .before .before .before .before .before .before .before .before .before .before .before .before .before .before .before .before .before .before .before .before .before .before .as-operand .result) (c .before .before .before .before .before .before .before .before .before .before .before .before .before .before .before .before .before .second-operand .result) (c .before .before .before .before .before .before .before .before .before .before .before .before .as-operand2 .result) (first-taken (c .before .before .before .before .before .before .before .before .before .before .before .before .before .before .before .before .before .before .before .before .before .before .before .before)) (second-taken (c .before .before .before .before .before .before .before .before .before .before .before .before .before .before .before .before .before)) (c .before .before .before .before .before .before .before .before .before .before .before .before .as-operand2 .ensures) (no-states (c .before .before .before .before .before .before .before .before .before .before .before .before .before .before .before .before .before .before .before .before .before .before .before .before .before .before .before .before .before .before .before .before)) (no-widths (c .before .before .before .before .before .before .before .before .before .before .before .before .before .before .before .before .before .before .before .before .before .before .before .before .before .before .before .before .before .before)) (c .refused6 .result) _ (c .refused6 .ensures) (λ u f. third-outside u _ _ _ _ f (sym (c .before .before .before .before .before .before .before .before .before .before .before .lanes-differ .ensures) ∙ c .before .before .before .before .before .before .before .before .before .before .if2 .left) (sym (c .before .before .before .before .before .before .before .before .outside .ensures) ∙ c .before .before .before .before .before .before .before .if3 .left) (sym (c .before .before .before .before .before .outside2 .ensures) ∙ c .before .before .before .before .if4 .left) (sym (c .before .before .outside3 .ensures) ∙ c .before .if5 .taken)), (first-taken (c .before .before .before .before .before .before .before .before .before .before .before .before .before .before .before .before .before .before .before .before .before .before .before .before) .long, (second-taken (c .before .before .before .before .before .before .before .before .before .before .before .before .before .before .before .before .before) .long, c .before .before .before .before .before .before .before .before .before .before .before .before .as-operand2 .ensures .long)))
+returns-6 c =
+    let o = c .before .before .before .before .before .before .before .before .before .before .before .before in
+    (halted o (c .refused6 .result) _ (c .refused6 .ensures) (λ u f. third-outside u _ _ _ _ f (sym (c .before .before .before .before .before .before .before .before .before .before .before .lanes-differ .ensures) ∙ c .before .before .before .before .before .before .before .before .before .before .if2 .left) (sym (c .before .before .before .before .before .before .before .before .outside .ensures) ∙ c .before .before .before .before .before .before .before .if3 .left) (second-lies (c .before .before .before .before .before) ∙ c .before .before .before .before .if4 .left) (sym (c .before .before .outside2 .ensures) ∙ c .before .if5 .taken)), long o)
 
 returns-7 : tie.Need-returns-7
-returns-7 c = (cleared (c .before .before .before .before .before .before .before .before .before .before .before .before .before .before .before .before .before .before .before .before .before .before .before .before .before .before .before .before .before .before .before .before .before .before .args .vl) (c .before .before .before .before .before .before .before .before .before .before .before .before .before .before .before .before .before .before .before .before .before .before .before .before .before .before .before .before .before .before .before .before .before .before .args .len) (c .before .before .before .before .before .before .before .before .before .before .before .before .before .before .before .before .before .before .before .before .before .before .before .before .before .before .before .before .before .before .before .before .before .before .args .same) (patternAt (c .before .before .before .before .before .before .before .before .before .before .before .before .before .before .before .before .before .before .before .before .before .before .before .before .before .before .before .before .before .before .before .before .before .before .args .shapes .now) (c .before .before .before .before .before .before .before .before .before .before .before .before .before .before .before .before .before .before .before .before .before .before .before .before .before .before .before .before .before .before .before .before .before .before .args .places .now) (c .before .before .before .before .before .before .before .before .before .before .before .before .before .before .before .before .before .before .before .before .before .before .before .before .before .before .before .before .before .before .before .before .before .before .args .i)) (patternAt (c .before .before .before .before .before .before .before .before .before .before .before .before .before .before .before .before .before .before .before .before .before .before .before .before .before .before .before .before .before .before .before .before .before .before .args .shapes .now) (c .before .before .before .before .before .before .before .before .before .before .before .before .before .before .before .before .before .before .before .before .before .before .before .before .before .before .before .before .before .before .before .before .before .before .args .places .now) (c .before .before .before .before .before .before .before .before .before .before .before .before .before .before .before .before .before .before .before .before .before .before .before .before .before .before .before .before .before .before .before .before .before .before .args .j)) (patternAt (c .before .before .before .before .before .before .before .before .before .before .before .before .before .before .before .before .before .before .before .before .before .before .before .before .before .before .before .before .before .before .before .before .before .before .args .shapes .now) (c .before .before .before .before .before .before .before .before .before .before .before .before .before .before .before .before .before .before .before .before .before .before .before .before .before .before .before .before .before .before .before .before .before .before .args .places .now) (c .before .before .before .before .before .before .before .before .before .before .before .before .before .before .before .before .before .before .before .before .before .before .before .before .before .before .before .before .before .before .before .before .before .before .args .t)) (c .before .before .before .before .before .before .before .before .before .before .before .before .before .before .before .before .before .before .before .before .before .before .before .before .before .before .before .before .before .before .before .before .before .before .args .a) (c .before .before .before .before .before .before .before .before .before .before .before .before .before .before .before .before .before .before .before .before .before .before .before .before .before .before .before .before .before .before .before .before .before .before .args .b) (c .before .before .before .before .before .before .before .before .before .before .before .before .before .before .before .before .before .before .before .before .before .before .before .before .before .before .before .before .before .before .before .before .before .before .args .d) (c .before .before .before .before .before .before .before .before .before .before .before .before .before .before .before .before .before .before .before .before .before .before .before .before .before .before .before .before .before .before .before .before .before .before .args .va .now) (c .before .before .before .before .before .before .before .before .before .before .before .before .before .before .before .before .before .before .before .before .before .before .before .before .before .before .before .before .before .before .before .before .before .before .args .vb .now) (c .before .before .before .before .before .before .before .before .before .before .before .before .before .before .before .before .before .before .before .before .before .before .before .before .before .before .before .before .before .before .before .before .before .before .args .vd .now) (c .before .before .before .before .before .before .before .before .before .before .before .before .before .before .before .before .before .before .before .before .before .before .before .as-operand .last .1 .1 .1 .1 .1 .0) (c .before .before .before .before .before .before .before .before .before .before .before .before .before .before .before .before .second-operand .last .1 .1 .1 .1 .1 .1 .1 .1 .1 .0) (c .before .before .before .before .before .before .before .before .before .before .before .as-operand2 .last .1 .1 .1 .1 .1 .0) (c .before .before .before .before .before .before .before .before .before .before .before .before .before .before .before .before .before .before .before .before .before .before .before .as-operand .last .1 .1 .1 .1 .1 .1 .0) (c .before .before .before .before .before .before .before .before .before .before .before .before .before .before .before .before .second-operand .last .1 .1 .1 .1 .1 .1 .1 .1 .1 .1 .0) (c .before .before .before .before .before .before .before .before .before .before .before .as-operand2 .last .1 .1 .1 .1 .1 .1 .0) (c .before .before .before .before .before .before .before .before .before .before .before .before .before .before .before .before .before .before .before .before .before .before .before .before .before .before .before .before .before .before .before .before .before .before .pre .0 .0 .1) (c .before .before .before .before .before .before .before .before .before .before .before .before .before .before .before .before .before .before .before .before .before .before .before .before .before .before .before .before .before .before .before .before .before .before .pre .1 .1 .0 .0) (c .before .before .before .before .before .before .before .before .before .before .before .before .before .before .before .before .before .before .before .before .before .before .before .before .before .before .before .before .before .before .before .before .before .before .pre .1 .1 .0 .1 .0) (c .before .before .before .before .before .before .before .before .before .before .before .before .before .before .before .before .before .before .before .before .before .before .before .before .before .before .before .before .before .before .before .before .before .before .pre .1 .1 .0 .1 .1) (c .before .before .before .before .before .before .before .before .before .before .before .before .before .before .before .before .before .before .before .before .before .before .before .as-operand .result) (c .before .before .before .before .before .before .before .before .before .before .before .before .before .before .before .before .second-operand .result) (c .before .before .before .before .before .before .before .before .before .before .before .as-operand2 .result) (first-taken (c .before .before .before .before .before .before .before .before .before .before .before .before .before .before .before .before .before .before .before .before .before .before .before)) (second-taken (c .before .before .before .before .before .before .before .before .before .before .before .before .before .before .before .before)) (c .before .before .before .before .before .before .before .before .before .before .before .as-operand2 .ensures) (no-states (c .before .before .before .before .before .before .before .before .before .before .before .before .before .before .before .before .before .before .before .before .before .before .before .before .before .before .before .before .before .before .before)) (no-widths (c .before .before .before .before .before .before .before .before .before .before .before .before .before .before .before .before .before .before .before .before .before .before .before .before .before .before .before .before .before)) (sym (c .before .before .before .before .before .before .before .before .before .before .lanes-differ .ensures) ∙ c .before .before .before .before .before .before .before .before .before .if2 .left) (sym (c .before .before .before .before .before .before .before .outside .ensures) ∙ c .before .before .before .before .before .before .if3 .left) (sym (c .before .before .before .before .outside2 .ensures) ∙ c .before .before .before .if4 .left) (sym (c .before .outside3 .ensures) ∙ c .if5 .left) (c .before .before .before .before .before .before .before .before .before .before .before .before .before .before .before .before .second-operand .ensures .1) _ refl, (first-taken (c .before .before .before .before .before .before .before .before .before .before .before .before .before .before .before .before .before .before .before .before .before .before .before) .long, (second-taken (c .before .before .before .before .before .before .before .before .before .before .before .before .before .before .before .before) .long, c .before .before .before .before .before .before .before .before .before .before .before .as-operand2 .ensures .long)))
+returns-7 c = let o = c .before .before .before .before .before .before .before .before .before .before .before in (passed o (sym (c .before .before .before .before .before .before .before .before .before .before .lanes-differ .ensures) ∙ c .before .before .before .before .before .before .before .before .before .if2 .left) (sym (c .before .before .before .before .before .before .before .outside .ensures) ∙ c .before .before .before .before .before .before .if3 .left) (second-lies (c .before .before .before .before) ∙ c .before .before .before .if4 .left) (sym (c .before .outside2 .ensures) ∙ c .if5 .left) _ refl, long o)
 
 pub check-calculation-spec : {M : Type 1} → statement M
 check-calculation-spec =
@@ -210,31 +279,31 @@ check-calculation-spec =
     refused-requires-2
     returns-2
     lanes-requires
-    mul-as-operand
-    index-1-as-operand
-    mul-as-operand-2
-    index-1-as-operand-2
-    as-operand-requires
-    mul-second-operand
-    index-1-second-operand
-    mul-second-operand-2
-    index-1-second-operand-2
-    second-operand-requires
-    mul-as-operand-3
-    index-1-as-operand-3
-    mul-as-operand-4
-    index-1-as-operand-4
-    as-operand-requires-2
+    mul-as-source
+    index-1-as-source
+    mul-as-source-2
+    index-1-as-source-2
+    as-source-requires
+    mul-second-source
+    index-1-second-source
+    mul-second-source-2
+    index-1-second-source-2
+    second-source-requires
+    mul-as-destination
+    index-1-as-destination
+    mul-as-destination-2
+    index-1-as-destination-2
+    as-destination-requires
     lanes-differ-requires
     refused-requires-3
     returns-3
     outside-requires
     refused-requires-4
     returns-4
-    outside-requires-2
+    second-outside-requires
     refused-requires-5
     returns-5
-    outside-requires-3
+    outside-requires-2
     refused-requires-6
     returns-6
     returns-7)

@@ -3,6 +3,7 @@ use native.Mathlib.Omega.{arith}
 use Prim.Native.Nat.{ℕ, _+_, _-_, _≤_, _<_}
 use mathlib.Core.Path.{_≡_, refl, sym, _∙_, ap, subst}
 use mathlib.Core.List.{List, []}
+use mathlib.Core.Bool.{cond}
 use lib.ListN.{length, getD, take}
 use lib.Dec.{eqb}
 use Rattle.engine.specs.Registers.{isOpen, toCome, noRegister, reg}
@@ -14,6 +15,7 @@ use Rattle.engine.specs.Calculations.{Fit, Cleared}
 use Rattle.engine.specs.Layouts.{noRunning, registersIn}
 use Rattle.engine.specs.LayoutLaws.{views-at, patterns-set}
 use Rattle.engine.proofs.PassSteps.{machineOf, Passing, passing, named-here, passing-on, passing-no, Passes, passes-begun, passes-over, passes-no, passes-fewer, passes-on}
+use Rattle.engine.proofs.Clearing.{moved-room}
 use Rattle.engine.proofs.Rounds.{Laid, fit-at, lanes-long, calculated-at, round, refused-so, three-on}
 use borrow.Author.Tests.{eqb-true}
 use Rattle.engine.specs.declared.run.Verdict.the-variants.{Done, Refused}
@@ -161,14 +163,14 @@ checked : (c : tie.After-check-calculation Inv-loop2 μ-loop2 Inv-loop μ-loop) 
     let a = m .before .before .before .before .before .before .before .before .before .before .before .before .before in
     let k = c .check-calculation in
     Cleared (a .args .vl) (length (l .memory)) (eqb (calculation m .first) (calculation m .second)) (patternAt (shapes m) (places m) (calculation m .first)) (patternAt (shapes m) (places m) (calculation m .second)) (patternAt (shapes m) (places m) (calculation m .destination)) (getD (l .all) (calculation m .first) noRunning) (getD (l .all) (calculation m .second) noRunning) (getD (l .all) (calculation m .destination) noRunning)
-    (getD (l .indices) (calculation m .first) []) (getD (l .indices) (calculation m .second) []) (getD (l .indices) (calculation m .destination) []) (k .last .1 .1 .1 .1 .1 .1 .1 .1 .1 .1 .1 .0) (k .last .1 .1 .1 .1 .1 .1 .1 .1 .1 .1 .1 .1 .0) (k .last .1 .1 .1 .1 .1 .1 .1 .1 .1 .1 .1 .1 .1 .0) (k .last .1 .1 .1 .1 .1 .1 .1 .1 .1 .1 .1 .1 .1 .1 .0) (k .last .1 .1 .1 .1 .1 .1 .1 .1 .1 .1 .1 .1 .1 .1 .1 .0) (k .last .1 .1 .1 .1 .1 .1 .1 .1 .1 .1 .1 .1 .1 .1 .1 .1 .0) (k .result)
+    (getD (l .indices) (calculation m .first) []) (getD (l .indices) (calculation m .second) []) (getD (l .indices) (calculation m .destination) []) (k .last .1 .1 .1 .1 .1 .1 .1 .1 .1 .1 .1 .0) (k .last .1 .1 .1 .1 .1 .1 .1 .1 .1 .1 .1 .1 .0) (k .last .1 .1 .1 .1 .1 .1 .1 .1 .1 .1 .1 .1 .1 .0) (k .last .1 .1 .1 .1 .1 .1 .1 .1 .1 .1 .1 .1 .1 .1 .0) (cond (eqb (calculation m .first) (calculation m .second)) (k .last .1 .1 .1 .1 .1 .1 .1 .1 .1 .1 .1 .1 .1 .1 .0) (k .last .1 .1 .1 .1 .1 .1 .1 .1 .1 .1 .1 .1 .1 .1 .1 .0)) (k .last .1 .1 .1 .1 .1 .1 .1 .1 .1 .1 .1 .1 .1 .1 .1 .1 .0) (k .result)
 checked c =
     let m = c .before .before .before .before .before .before .before .before .before .before .before .before .before .before .before .before .before in
     let l = m .before .loop2 in
     let a = m .before .before .before .before .before .before .before .before .before .before .before .before .before in
     let k = c .check-calculation in
     subst (λ w. Cleared (a .args .vl) w (eqb (calculation m .first) (calculation m .second)) (patternAt (shapes m) (places m) (calculation m .first)) (patternAt (shapes m) (places m) (calculation m .second)) (patternAt (shapes m) (places m) (calculation m .destination)) (getD (l .all) (calculation m .first) noRunning) (getD (l .all) (calculation m .second) noRunning) (getD (l .all) (calculation m .destination) noRunning)
-    (getD (l .indices) (calculation m .first) []) (getD (l .indices) (calculation m .second) []) (getD (l .indices) (calculation m .destination) []) (k .last .1 .1 .1 .1 .1 .1 .1 .1 .1 .1 .1 .0) (k .last .1 .1 .1 .1 .1 .1 .1 .1 .1 .1 .1 .1 .0) (k .last .1 .1 .1 .1 .1 .1 .1 .1 .1 .1 .1 .1 .1 .0) (k .last .1 .1 .1 .1 .1 .1 .1 .1 .1 .1 .1 .1 .1 .1 .0) (k .last .1 .1 .1 .1 .1 .1 .1 .1 .1 .1 .1 .1 .1 .1 .1 .0) (k .last .1 .1 .1 .1 .1 .1 .1 .1 .1 .1 .1 .1 .1 .1 .1 .1 .0) (k .result)) (sym (l .inv .1 .long)) (k .ensures .0)
+    (getD (l .indices) (calculation m .first) []) (getD (l .indices) (calculation m .second) []) (getD (l .indices) (calculation m .destination) []) (k .last .1 .1 .1 .1 .1 .1 .1 .1 .1 .1 .1 .0) (k .last .1 .1 .1 .1 .1 .1 .1 .1 .1 .1 .1 .1 .0) (k .last .1 .1 .1 .1 .1 .1 .1 .1 .1 .1 .1 .1 .1 .0) (k .last .1 .1 .1 .1 .1 .1 .1 .1 .1 .1 .1 .1 .1 .1 .0) (cond (eqb (calculation m .first) (calculation m .second)) (k .last .1 .1 .1 .1 .1 .1 .1 .1 .1 .1 .1 .1 .1 .1 .0) (k .last .1 .1 .1 .1 .1 .1 .1 .1 .1 .1 .1 .1 .1 .1 .1 .0)) (k .last .1 .1 .1 .1 .1 .1 .1 .1 .1 .1 .1 .1 .1 .1 .1 .1 .0) (k .result)) (sym (l .inv .1 .long)) (k .ensures .0)
 
 rejoined-requires : tie.Need-rejoined-requires Inv-loop2 μ-loop2 Inv-loop μ-loop
 rejoined-requires c κs =
@@ -189,7 +191,7 @@ returns c =
     let k = c .before .before .before .before .before .before .before .before .check-calculation in
     let r : Register = noRegister in
     let h = refused-so (a .args .vl) (eqb (calculation m .first) (calculation m .second)) (patternAt (shapes m) (places m) (calculation m .first)) (patternAt (shapes m) (places m) (calculation m .second)) (patternAt (shapes m) (places m) (calculation m .destination)) (getD (l .all) (calculation m .first) noRunning) (getD (l .all) (calculation m .second) noRunning) (getD (l .all) (calculation m .destination) noRunning)
-    (getD (l .indices) (calculation m .first) []) (getD (l .indices) (calculation m .second) []) (getD (l .indices) (calculation m .destination) []) (k .last .1 .1 .1 .1 .1 .1 .1 .1 .1 .1 .1 .0) (k .last .1 .1 .1 .1 .1 .1 .1 .1 .1 .1 .1 .1 .0) (k .last .1 .1 .1 .1 .1 .1 .1 .1 .1 .1 .1 .1 .1 .0) (k .last .1 .1 .1 .1 .1 .1 .1 .1 .1 .1 .1 .1 .1 .1 .0) (k .last .1 .1 .1 .1 .1 .1 .1 .1 .1 .1 .1 .1 .1 .1 .1 .0) (k .last .1 .1 .1 .1 .1 .1 .1 .1 .1 .1 .1 .1 .1 .1 .1 .1 .0) (k .result)
+    (getD (l .indices) (calculation m .first) []) (getD (l .indices) (calculation m .second) []) (getD (l .indices) (calculation m .destination) []) (k .last .1 .1 .1 .1 .1 .1 .1 .1 .1 .1 .1 .0) (k .last .1 .1 .1 .1 .1 .1 .1 .1 .1 .1 .1 .1 .0) (k .last .1 .1 .1 .1 .1 .1 .1 .1 .1 .1 .1 .1 .1 .0) (k .last .1 .1 .1 .1 .1 .1 .1 .1 .1 .1 .1 .1 .1 .1 .0) (cond (eqb (calculation m .first) (calculation m .second)) (k .last .1 .1 .1 .1 .1 .1 .1 .1 .1 .1 .1 .1 .1 .1 .0) (k .last .1 .1 .1 .1 .1 .1 .1 .1 .1 .1 .1 .1 .1 .1 .1 .0)) (k .last .1 .1 .1 .1 .1 .1 .1 .1 .1 .1 .1 .1 .1 .1 .1 .1 .0) (k .result)
     (getD (l .lanes) (calculation m .first) []) (getD (l .lanes) (calculation m .second) []) (getD (l .lanes) (calculation m .destination) []) (l .memory) (checked (c .before .before .before .before .before .before .before .before)) (sixty-four m (calculation m .first) (named m .first)) (sixty-four m (calculation m .second) (named m .second)) (sixty-four m (calculation m .destination) (named m .destination)) (calculation m .action) _ (c .before .before .before .before .before .before .why .given .1) r r r in
     let p = passing-no _ _ _ _ _ _ _ _ _ _ _ (l .inv .0) (m .loop2-test .taken) (omega (arith, o .inv .0, o .inv .1)) _ _ _ _ _
     (calculated-at (shapes m) (places m) (l .lanes) (l .indices) (l .all) (l .inv .1 .out) (a .args .vl) (calculation m .action) (l .memory) (calculation m .first) (calculation m .second) (calculation m .destination) (named m .first) (named m .second) (named m .destination) _ r r r (l .memory) h) _ (c .before .before .before .before .before .before .why .given .1) in
@@ -225,9 +227,16 @@ carry-out-requires c κs =
     let g = checked (c .before .before .before .before .before .before .before .before .before .before .before .before .before .before .before) in
     let e = c .before .before .before .before .before .before .before .before .before .before .before .before .before .enum-told .given .1 in (
       g .within e,
-      λ t.
-          let h = g .again e t in
-          (h .0, (h .1, ap (λ i. getD (l .lanes) i []) (sym (eqb-true (calculation m .first) (calculation m .second) t)))),
+      (
+        (
+          moved-room _ _ _ _ (fits m (calculation m .first) (named m .first)) _ _ _ _ _ (g .first e),
+          (
+            moved-room _ _ _ _ (fits m (calculation m .second) (named m .second)) _ _ _ _ _ (g .second e),
+            moved-room _ _ _ _ (fits m (calculation m .destination) (named m .destination)) _ _ _ _ _ (g .destination e),
+          ),
+        ),
+        λ t. (g .again e t .0, ap (λ i. getD (l .lanes) i []) (sym (eqb-true (calculation m .first) (calculation m .second) t))),
+      ),
     )
 
 mul-all : tie.Need-mul-all Inv-loop2 μ-loop2 Inv-loop μ-loop
@@ -305,12 +314,12 @@ loop2-again c =
     let v = c .before .before .before .before .before .carry-out in
     let fa = fits m (calculation m .first) (named m .first) in
     let h = round (a .args .vl) (eqb (calculation m .first) (calculation m .second)) (patternAt (shapes m) (places m) (calculation m .first)) (patternAt (shapes m) (places m) (calculation m .second)) (patternAt (shapes m) (places m) (calculation m .destination)) (getD (l .all) (calculation m .first) noRunning) (getD (l .all) (calculation m .second) noRunning) (getD (l .all) (calculation m .destination) noRunning)
-    (getD (l .indices) (calculation m .first) []) (getD (l .indices) (calculation m .second) []) (getD (l .indices) (calculation m .destination) []) (k .last .1 .1 .1 .1 .1 .1 .1 .1 .1 .1 .1 .0) (k .last .1 .1 .1 .1 .1 .1 .1 .1 .1 .1 .1 .1 .0) (k .last .1 .1 .1 .1 .1 .1 .1 .1 .1 .1 .1 .1 .1 .0) (k .last .1 .1 .1 .1 .1 .1 .1 .1 .1 .1 .1 .1 .1 .1 .0) (k .last .1 .1 .1 .1 .1 .1 .1 .1 .1 .1 .1 .1 .1 .1 .1 .0) (k .last .1 .1 .1 .1 .1 .1 .1 .1 .1 .1 .1 .1 .1 .1 .1 .1 .0) (k .result)
-    (getD (l .lanes) (calculation m .first) []) (getD (l .lanes) (calculation m .second) []) (getD (l .lanes) (calculation m .destination) []) (l .memory) g (sixty-four m (calculation m .first) (named m .first)) (sixty-four m (calculation m .second) (named m .second)) (sixty-four m (calculation m .destination) (named m .destination)) (calculation m .action) e fa (v .result) (v .last .1 .1 .1 .1 .1 .1 .1 .1 .1 .0) (v .last .1 .1 .1 .1 .1 .1 .1 .1 .1 .1 .0) (v .last .1 .1 .1 .1 .1 .1 .1 .1 .1 .1 .1 .0) (v .last .1 .1 .1 .1 .1 .1 .1 .1 .1 .1 .1 .1 .0) (v .ensures) in
+    (getD (l .indices) (calculation m .first) []) (getD (l .indices) (calculation m .second) []) (getD (l .indices) (calculation m .destination) []) (k .last .1 .1 .1 .1 .1 .1 .1 .1 .1 .1 .1 .0) (k .last .1 .1 .1 .1 .1 .1 .1 .1 .1 .1 .1 .1 .0) (k .last .1 .1 .1 .1 .1 .1 .1 .1 .1 .1 .1 .1 .1 .0) (k .last .1 .1 .1 .1 .1 .1 .1 .1 .1 .1 .1 .1 .1 .1 .0) (cond (eqb (calculation m .first) (calculation m .second)) (k .last .1 .1 .1 .1 .1 .1 .1 .1 .1 .1 .1 .1 .1 .1 .0) (k .last .1 .1 .1 .1 .1 .1 .1 .1 .1 .1 .1 .1 .1 .1 .1 .0)) (k .last .1 .1 .1 .1 .1 .1 .1 .1 .1 .1 .1 .1 .1 .1 .1 .1 .0) (k .result)
+    (getD (l .lanes) (calculation m .first) []) (getD (l .lanes) (calculation m .second) []) (getD (l .lanes) (calculation m .destination) []) (l .memory) g (sixty-four m (calculation m .first) (named m .first)) (sixty-four m (calculation m .second) (named m .second)) (sixty-four m (calculation m .destination) (named m .destination)) (calculation m .action) e fa (v .result) (v .last .1 .1 .1 .1 .1 .1 .1 .1 .1 .1 .1 .1 .0) (v .last .1 .1 .1 .1 .1 .1 .1 .1 .1 .1 .1 .1 .1 .0) (v .last .1 .1 .1 .1 .1 .1 .1 .1 .1 .1 .1 .1 .1 .1 .0) (v .last .1 .1 .1 .1 .1 .1 .1 .1 .1 .1 .1 .1 .1 .1 .1 .0) (v .ensures) in
     let q = passing-on _ _ _ _ _ _ _ _ _ _ _ (l .inv .0) (m .loop2-test .taken) (omega (arith, o .inv .0, o .inv .1)) _ _ _ _ _
-    (calculated-at (shapes m) (places m) (l .lanes) (l .indices) (l .all) (l .inv .1 .out) (a .args .vl) (calculation m .action) (l .memory) (calculation m .first) (calculation m .second) (calculation m .destination) (named m .first) (named m .second) (named m .destination) _ _ _ _ (v .last .1 .1 .1 .1 .1 .1 .1 .1 .1 .1 .1 .1 .0) (h .0)) e in
-    let w = three-on (shapes m) (places m) (l .lanes) (l .indices) (l .all) (l .inv .1 .out) (calculation m .first) (calculation m .second) (calculation m .destination) (named m .first) (named m .second) (named m .destination) (v .last .1 .1 .1 .1 .1 .1 .1 .1 .1 .0) (v .last .1 .1 .1 .1 .1 .1 .1 .1 .1 .1 .0) (v .last .1 .1 .1 .1 .1 .1 .1 .1 .1 .1 .1 .0) (k .last .1 .1 .1 .1 .1 .1 .1 .1 .1 .1 .1 .0) (k .last .1 .1 .1 .1 .1 .1 .1 .1 .1 .1 .1 .1 .0) (k .last .1 .1 .1 .1 .1 .1 .1 .1 .1 .1 .1 .1 .1 .0) (v .result .first) (v .result .second) (v .result .destination) (h .1 .0) (h .1 .1 .0) (h .1 .1 .1) in (
-      subst (λ rs. Passing (a .args .vl) (a .args .body .count) (a .args .body .steps) (o .passes) (registersIn (shapes m) (places m) (o .lanes) (o .indices) (o .all)) (o .memory) (o .calculations) rs (v .last .1 .1 .1 .1 .1 .1 .1 .1 .1 .1 .1 .1 .0) (l .calculations + 1) (l .k + 1))
+    (calculated-at (shapes m) (places m) (l .lanes) (l .indices) (l .all) (l .inv .1 .out) (a .args .vl) (calculation m .action) (l .memory) (calculation m .first) (calculation m .second) (calculation m .destination) (named m .first) (named m .second) (named m .destination) _ _ _ _ (v .last .1 .1 .1 .1 .1 .1 .1 .1 .1 .1 .1 .1 .1 .1 .1 .0) (h .0)) e in
+    let w = three-on (shapes m) (places m) (l .lanes) (l .indices) (l .all) (l .inv .1 .out) (calculation m .first) (calculation m .second) (calculation m .destination) (named m .first) (named m .second) (named m .destination) (v .last .1 .1 .1 .1 .1 .1 .1 .1 .1 .1 .1 .1 .0) (v .last .1 .1 .1 .1 .1 .1 .1 .1 .1 .1 .1 .1 .1 .0) (v .last .1 .1 .1 .1 .1 .1 .1 .1 .1 .1 .1 .1 .1 .1 .0) (k .last .1 .1 .1 .1 .1 .1 .1 .1 .1 .1 .1 .0) (k .last .1 .1 .1 .1 .1 .1 .1 .1 .1 .1 .1 .1 .0) (k .last .1 .1 .1 .1 .1 .1 .1 .1 .1 .1 .1 .1 .1 .0) (v .result .first) (v .result .second) (v .result .destination) (h .1 .0) (h .1 .1 .0) (h .1 .1 .1) in (
+      subst (λ rs. Passing (a .args .vl) (a .args .body .count) (a .args .body .steps) (o .passes) (registersIn (shapes m) (places m) (o .lanes) (o .indices) (o .all)) (o .memory) (o .calculations) rs (v .last .1 .1 .1 .1 .1 .1 .1 .1 .1 .1 .1 .1 .1 .1 .1 .0) (l .calculations + 1) (l .k + 1))
           (sym (w .1)) q,
       record {
         out = w .0;

@@ -9,17 +9,11 @@ use Rattle.engine.proofs.operand.outside.Tie as tie
 returns : tie.Need-returns
 returns c = rw (not-true (c .before .before .args .o .live) (c .if1 .taken))
 
-row-within-requires : tie.Need-row-within-requires
-row-within-requires c κs = search needs
+parts-within-requires : tie.Need-parts-within-requires
+parts-within-requires c κs = let h = c .before .before .pre in (h .1 .0, (h .0, h .1 .1))
 
 returns-2 : tie.Need-returns-2
-returns-2 c = rw (not-false (c .before .before .before .before .before .before .args .o .live) (c .before .before .before .before .if1 .left), c .before .before .before .if2 .taken) (ap not (c .row-within .ensures))
-
-all-within-requires : tie.Need-all-within-requires
-all-within-requires c κs = search needs
-
-returns-3 : tie.Need-returns-3
-returns-3 c = rw (not-false (c .before .before .before .before .args .o .live) (c .before .before .if1 .left), c .before .if2 .left) (ap not (c .all-within .ensures))
+returns-2 c = rw (not-false (c .before .before .before .args .o .live) (c .before .if1 .left)) (ap not (c .parts-within .ensures))
 
 pub outside-spec : {M : Type 1} → statement M
-outside-spec = tie.close (tie.spec returns row-within-requires returns-2 all-within-requires returns-3)
+outside-spec = tie.close (tie.spec returns parts-within-requires returns-2)
