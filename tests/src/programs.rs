@@ -178,6 +178,24 @@ impl Tried {
         Ok(())
     }
 
+    /// Streams that are configured in turns, a register that is opened anew, one that stays being configured; and as many streams as a
+    /// sheet can have.
+    fn many_streams(&mut self) -> Result<(), String> {
+        let sheet = bytes_of(
+            "01 8B 81 01 00  02 01 00 00 02  04 01
+            01 8B 82 01 08  01 8B 81 01 00  02 02 00 04 02  02 01 00 03 02  04 02  02 01 00 02 10  04 01
+            01 8B 84 01 00  02 04 00 01 02  01 8B 03 80 01  02 03 00 06 02  04 03
+            05 01 01  00 03 01 01",
+        );
+        self.expect_file("listing", &[], &sheet, "in-turns.listing")?;
+        let sheet = bytes_of("01 8B 81 01 00  02 01 00 00 02  04 01").repeat(5_461);
+        let written = self.run("listing", &[], &sheet)?;
+        let text = String::from_utf8_lossy(&written.out).into_owned();
+        self.same("5,461 streams: lines", &text.lines().count().to_le_bytes(), &(3 * 5_461_usize + 1).to_le_bytes());
+        self.same("5,461 streams: last line", text.lines().last().unwrap_or("").as_bytes(), b"accepted: 65532 bytes");
+        Ok(())
+    }
+
     /// Wrong arguments, files that cannot be read, lengths that are not allowed, help.
     fn wrong_use(&mut self) -> Result<(), String> {
         const RUN: &str = "usage: run VECTOR-LENGTH SHEET MEMORY [OUT]\n";
@@ -221,6 +239,7 @@ impl Tried {
         self.translations()?;
         self.examples()?;
         self.refused_sheets()?;
+        self.many_streams()?;
         self.wrong_use()
     }
 }
