@@ -20,14 +20,14 @@ struct Written {
 }
 
 /// Runs a program in a folder.
-fn run(program: &Path, folder: &Path, arguments: &[&str], input: &[u8]) -> Result<Written, String> {
+fn run(program: &Path, folder: &Path, arguments: &[&str], input: &[u8], out: Stdio) -> Result<Written, String> {
     let said = |error| format!("{}: {error}", program.display());
     let mut child = Command::new(program)
         .args(arguments)
         .current_dir(folder)
         .env("LC_ALL", "C")
         .stdin(Stdio::piped())
-        .stdout(Stdio::piped())
+        .stdout(out)
         .stderr(Stdio::piped())
         .spawn()
         .map_err(said)?;
@@ -37,6 +37,18 @@ fn run(program: &Path, folder: &Path, arguments: &[&str], input: &[u8]) -> Resul
     drop(pipe);
     let output = child.wait_with_output().map_err(said)?;
     Ok(Written { out: output.stdout, error: output.stderr })
+}
+
+/// What `translate` says of a refusal, by its number.
+fn why(number: u64) -> &'static str {
+    match number {
+        1 => "a number is cut off, too long or not shortest",
+        2 => "a number out of its range, or bytes after the nest",
+        6 => "more than eight terms are not 0",
+        8 => "a loop's count can fall below 0 or rise above 4,096",
+        9 => "the product of the loops' largest counts is above 1,048,576",
+        _ => "no refusal of a nest",
+    }
 }
 
 /// The bytes of commented hexadecimal text.
@@ -67,7 +79,7 @@ impl Tried {
     }
 
     fn run(&self, program: &str, arguments: &[&str], input: &[u8]) -> Result<Written, String> {
-        run(&self.programs.join(program), &self.folder, arguments, input)
+        run(&self.programs.join(program), &self.folder, arguments, input, Stdio::piped())
     }
 
     /// One case: what was found must be what was expected.
@@ -99,10 +111,13 @@ impl Tried {
         Ok(text)
     }
 
-    /// The program `translate` on a nest: the sheet of the model's translator, or nothing.
+    /// The program `translate` on a nest: the sheet of the model's translator, or nothing, and the model's refusal on standard error.
     fn translate(&mut self, bytes: &[u8]) -> Result<(), String> {
-        let sheet = nest::read(bytes).map_or_else(|_| Vec::new(), |nest| nest.sheet());
-        self.expect("translate", &[], bytes, &sheet, "")
+        let (sheet, error) = match nest::read(bytes) {
+            Ok(nest) => (nest.sheet(), String::new()),
+            Err((clause, place)) => (Vec::new(), format!("refused {} at {place}: {}\n", clause.number(), why(clause.number()))),
+        };
+        self.expect("translate", &[], bytes, &sheet, &error)
     }
 
     fn translations(&mut self) -> Result<(), String> {
@@ -118,7 +133,11 @@ impl Tried {
             self.translate(&vec![0; length])?;
             self.translate(&vec![255; length])?;
         }
-        Ok(())
+        // 6: five loops, ten terms of 1; 8: 3 - 1 x 4; 9: 1,025 x 1,024.
+        let streams = |depth: usize| ["00", &"02".repeat(depth)].concat().repeat(3);
+        self.translate(&bytes_of(&["00 05 00 01  01 02 02 02 02  01 02 02 02  01 02 02  01 02  01", &streams(5)].concat()))?;
+        self.translate(&bytes_of(&["00 02 00 01  03 01  05", &streams(2)].concat()))?;
+        self.translate(&bytes_of(&["00 02 00 01  81 08 00  80 08", &streams(2)].concat()))
     }
 
     /// An example: its listing, from a file and from standard input, and its run, with the memory that it leaves. Its comment says how the
@@ -196,6 +215,20 @@ impl Tried {
         Ok(())
     }
 
+    /// A device that is full.
+    fn full_device(&mut self) -> Result<(), String> {
+        self.made("empty", b"")?;
+        let nest = bytes_of("00 01 00 01 03 00 02 08 02 10 02");
+        let cases: [(&str, &[&str], &[u8]); 3] =
+            [("run", &["8", "empty", "empty"], b""), ("listing", &["empty"], b""), ("translate", &[], &nest)];
+        for (program, arguments, input) in cases {
+            let full = fs::File::options().write(true).open("/dev/full").map_err(|error| format!("/dev/full: {error}"))?;
+            let written = run(&self.programs.join(program), &self.folder, arguments, input, full.into())?;
+            self.same(&format!("{program}, a full device"), &written.error, b"standard output: No space left on device\n");
+        }
+        Ok(())
+    }
+
     /// Wrong arguments, files that cannot be read, lengths that are not allowed, help.
     fn wrong_use(&mut self) -> Result<(), String> {
         const RUN: &str = "usage: run VECTOR-LENGTH SHEET MEMORY [OUT]\n";
@@ -240,6 +273,7 @@ impl Tried {
         self.examples()?;
         self.refused_sheets()?;
         self.many_streams()?;
+        self.full_device()?;
         self.wrong_use()
     }
 }
