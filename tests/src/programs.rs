@@ -140,6 +140,15 @@ impl Tried {
         self.translate(&bytes_of(&["00 02 00 01  81 08 00  80 08", &streams(2)].concat()))
     }
 
+    /// A document has a text of `expected/`, behind the command that gives it.
+    fn told(&mut self, document: &str, command: &str, file: &str) -> Result<(), String> {
+        let read = |path: &str| fs::read_to_string(path).map_err(|error| format!("{path}: {error}"));
+        let text = format!("$ {command}\n{}", read(&format!("expected/{file}"))?);
+        let block: String = text.lines().map(|line| format!("    {line}\n")).collect();
+        self.same(&format!("{document}: {command}"), &[u8::from(read(&format!("../{document}"))?.contains(&block))], &[1]);
+        Ok(())
+    }
+
     /// An example: its listing, from a file and from standard input, and its run, with the memory that it leaves. Its comment says how the
     /// run begins.
     fn example(&mut self, name: &str, comment: &str, sheet: &[u8], vl: u64, image: &[u8]) -> Result<(), String> {
@@ -172,7 +181,7 @@ impl Tried {
             fs::read_to_string(&path).map_err(|error| format!("{path}: {error}"))
         };
         let image = bytes_of(&text("image")?);
-        for name in ["triangle", "coupled-triangle", "ragged-rows", "saxpy", "named-twice", "smoothing"] {
+        for name in ["first", "triangle", "coupled-triangle", "ragged-rows", "saxpy", "named-twice", "smoothing"] {
             let text = text(name)?;
             let command =
                 text.lines().find_map(|line| line.split("target/bin/run ").nth(1)).ok_or_else(|| format!("{name}: no command"))?;
@@ -184,7 +193,11 @@ impl Tried {
             }
             self.example(name, &text, &sheet, vl, &image)?;
         }
-        Ok(())
+        for (document, name, vl) in [("docs/USING.md", "first", 16), ("examples/README.md", "named-twice", 8)] {
+            self.told(document, "target/bin/listing sheet", &format!("{name}.listing"))?;
+            self.told(document, &format!("target/bin/run {vl} sheet image after"), &format!("{name}.run"))?;
+        }
+        self.told("docs/USING.md", "./run-c sheet image", "first.run-c")
     }
 
     /// A sheet that is refused before it runs is listed up to there.
