@@ -6,7 +6,9 @@
  * No state is kept between calls, so calls from several threads are safe, each on buffers of its own. There is no heap. Give a thread
  * that calls 256 KiB of stack: 146,280 bytes were touched, measured on x86-64 over the examples; no theorem bounds it.
  *
- * A report receives numbers of 64 bits each, lowest byte first.
+ * A report receives numbers of 64 bits each, lowest byte first: number k stands in bytes 8 k to 8 k + 7.
+ *
+ * examples/run.c is a program that calls uve_run: cc -Iinclude examples/run.c target/staticlib/libuve.a
  */
 #ifndef UVE_H
 #define UVE_H
@@ -32,8 +34,9 @@ extern "C" {
  * The numbers of the report:
  *   0 to 7      number, place, passes, calculations (done: number 0, place 0); then four that stay 0 for now: lane and operand of a
  *               refusal 14, headers with a cache level, iterations walked
- *   8 to 455    for each of the 32 registers 14 of them: state (0 plain, 1 being configured, 2 open, 3 finished), kind (0 none, 1 load,
- *               2 store), width in bytes, valid lanes, dimensions, flags (dimension 1 lowest), and the 64 lane bytes as 8 numbers.
+ *   8 to 455    for each of the 32 registers 14 of them, those of register i from number 8 + 14 i on: state (0 plain, 1 being
+ *               configured, 2 open, 3 finished), kind (0 none, 1 load, 2 store), width in bytes, valid lanes, dimensions, flags (dimension
+ *               1 in the lowest bit), and the 64 lane bytes as 8 numbers, so that they stand in the report in their order.
  *               What does not apply is 0: kind and dimensions of a plain register, flags of a plain or configuring one. With refusal
  *               15 all registers are fresh
  *   456 to 463  eight for the masks, which stay 0 for now

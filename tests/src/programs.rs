@@ -20,14 +20,14 @@ struct Written {
 }
 
 /// Runs a program in a folder.
-fn run(program: &Path, folder: &Path, arguments: &[&str], input: &[u8]) -> Result<Written, String> {
+fn run(program: &Path, folder: &Path, arguments: &[&str], input: &[u8], out: Stdio) -> Result<Written, String> {
     let said = |error| format!("{}: {error}", program.display());
     let mut child = Command::new(program)
         .args(arguments)
         .current_dir(folder)
         .env("LC_ALL", "C")
         .stdin(Stdio::piped())
-        .stdout(Stdio::piped())
+        .stdout(out)
         .stderr(Stdio::piped())
         .spawn()
         .map_err(said)?;
@@ -37,6 +37,18 @@ fn run(program: &Path, folder: &Path, arguments: &[&str], input: &[u8]) -> Resul
     drop(pipe);
     let output = child.wait_with_output().map_err(said)?;
     Ok(Written { out: output.stdout, error: output.stderr })
+}
+
+/// What `translate` says of a refusal, by its number.
+fn why(number: u64) -> &'static str {
+    match number {
+        1 => "a number is cut off, too long or not shortest",
+        2 => "a number out of its range, or bytes after the nest",
+        6 => "more than eight terms are not 0",
+        8 => "a loop's count can fall below 0 or rise above 4,096",
+        9 => "the product of the loops' largest counts is above 1,048,576",
+        _ => "no refusal of a nest",
+    }
 }
 
 /// The bytes of commented hexadecimal text.
@@ -67,7 +79,7 @@ impl Tried {
     }
 
     fn run(&self, program: &str, arguments: &[&str], input: &[u8]) -> Result<Written, String> {
-        run(&self.programs.join(program), &self.folder, arguments, input)
+        run(&self.programs.join(program), &self.folder, arguments, input, Stdio::piped())
     }
 
     /// One case: what was found must be what was expected.
@@ -99,10 +111,13 @@ impl Tried {
         Ok(text)
     }
 
-    /// The program `translate` on a nest: the sheet of the model's translator, or nothing.
+    /// The program `translate` on a nest: the sheet of the model's translator, or nothing, and the model's refusal on standard error.
     fn translate(&mut self, bytes: &[u8]) -> Result<(), String> {
-        let sheet = nest::read(bytes).map_or_else(|_| Vec::new(), |nest| nest.sheet());
-        self.expect("translate", &[], bytes, &sheet, "")
+        let (sheet, error) = match nest::read(bytes) {
+            Ok(nest) => (nest.sheet(), String::new()),
+            Err((clause, place)) => (Vec::new(), format!("refused {} at {place}: {}\n", clause.number(), why(clause.number()))),
+        };
+        self.expect("translate", &[], bytes, &sheet, &error)
     }
 
     fn translations(&mut self) -> Result<(), String> {
@@ -118,6 +133,19 @@ impl Tried {
             self.translate(&vec![0; length])?;
             self.translate(&vec![255; length])?;
         }
+        // 6: five loops, ten terms of 1; 8: 3 - 1 x 4; 9: 1,025 x 1,024.
+        let streams = |depth: usize| ["00", &"02".repeat(depth)].concat().repeat(3);
+        self.translate(&bytes_of(&["00 05 00 01  01 02 02 02 02  01 02 02 02  01 02 02  01 02  01", &streams(5)].concat()))?;
+        self.translate(&bytes_of(&["00 02 00 01  03 01  05", &streams(2)].concat()))?;
+        self.translate(&bytes_of(&["00 02 00 01  81 08 00  80 08", &streams(2)].concat()))
+    }
+
+    /// A document has a text of `expected/`, behind the command that gives it.
+    fn told(&mut self, document: &str, command: &str, file: &str) -> Result<(), String> {
+        let read = |path: &str| fs::read_to_string(path).map_err(|error| format!("{path}: {error}"));
+        let text = format!("$ {command}\n{}", read(&format!("expected/{file}"))?);
+        let block: String = text.lines().map(|line| format!("    {line}\n")).collect();
+        self.same(&format!("{document}: {command}"), &[u8::from(read(&format!("../{document}"))?.contains(&block))], &[1]);
         Ok(())
     }
 
@@ -153,7 +181,7 @@ impl Tried {
             fs::read_to_string(&path).map_err(|error| format!("{path}: {error}"))
         };
         let image = bytes_of(&text("image")?);
-        for name in ["triangle", "coupled-triangle", "ragged-rows", "saxpy", "named-twice", "smoothing"] {
+        for name in ["first", "triangle", "coupled-triangle", "ragged-rows", "saxpy", "named-twice", "smoothing"] {
             let text = text(name)?;
             let command =
                 text.lines().find_map(|line| line.split("target/bin/run ").nth(1)).ok_or_else(|| format!("{name}: no command"))?;
@@ -165,7 +193,11 @@ impl Tried {
             }
             self.example(name, &text, &sheet, vl, &image)?;
         }
-        Ok(())
+        for (document, name, vl) in [("docs/USING.md", "first", 16), ("examples/README.md", "named-twice", 8)] {
+            self.told(document, "target/bin/listing sheet", &format!("{name}.listing"))?;
+            self.told(document, &format!("target/bin/run {vl} sheet image after"), &format!("{name}.run"))?;
+        }
+        self.told("docs/USING.md", "./run-c sheet image", "first.run-c")
     }
 
     /// A sheet that is refused before it runs is listed up to there.
@@ -175,6 +207,38 @@ impl Tried {
         self.expect_file("listing", &[], &sheet[..12], "cut-off.listing")?;
         self.expect_file("listing", &[], &bytes_of("01 8B 81 01 00  06"), "unknown.listing")?;
         self.expect_file("listing", &[], b"", "empty.listing")?;
+        Ok(())
+    }
+
+    /// Streams that are configured in turns, a register that is opened anew, one that stays being configured; and as many streams as a
+    /// sheet can have.
+    fn many_streams(&mut self) -> Result<(), String> {
+        let sheet = bytes_of(
+            "01 8B 81 01 00  02 01 00 00 02  04 01
+            01 8B 82 01 08  01 8B 81 01 00  02 02 00 04 02  02 01 00 03 02  04 02  02 01 00 02 10  04 01
+            01 8B 84 01 00  02 04 00 01 02  01 8B 03 80 01  02 03 00 06 02  04 03
+            05 01 01  00 03 01 01",
+        );
+        self.expect_file("listing", &[], &sheet, "in-turns.listing")?;
+        let sheet = bytes_of("01 8B 81 01 00  02 01 00 00 02  04 01").repeat(5_461);
+        let written = self.run("listing", &[], &sheet)?;
+        let text = String::from_utf8_lossy(&written.out).into_owned();
+        self.same("5,461 streams: lines", &text.lines().count().to_le_bytes(), &(3 * 5_461_usize + 1).to_le_bytes());
+        self.same("5,461 streams: last line", text.lines().last().unwrap_or("").as_bytes(), b"accepted: 65532 bytes");
+        Ok(())
+    }
+
+    /// A device that is full.
+    fn full_device(&mut self) -> Result<(), String> {
+        self.made("empty", b"")?;
+        let nest = bytes_of("00 01 00 01 03 00 02 08 02 10 02");
+        let cases: [(&str, &[&str], &[u8]); 3] =
+            [("run", &["8", "empty", "empty"], b""), ("listing", &["empty"], b""), ("translate", &[], &nest)];
+        for (program, arguments, input) in cases {
+            let full = fs::File::options().write(true).open("/dev/full").map_err(|error| format!("/dev/full: {error}"))?;
+            let written = run(&self.programs.join(program), &self.folder, arguments, input, full.into())?;
+            self.same(&format!("{program}, a full device"), &written.error, b"standard output: No space left on device\n");
+        }
         Ok(())
     }
 
@@ -221,6 +285,8 @@ impl Tried {
         self.translations()?;
         self.examples()?;
         self.refused_sheets()?;
+        self.many_streams()?;
+        self.full_device()?;
         self.wrong_use()
     }
 }

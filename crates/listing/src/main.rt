@@ -8,6 +8,7 @@ use words::file::Stop;
 use words::file::Taken;
 use words::file::read_argument;
 use words::file::read_input;
+use words::file::write_output;
 use words::refusal::explained;
 use words::refusal::refused;
 use words::sheet::lines;
@@ -44,7 +45,7 @@ fn list(sheet: &[u8]) {
         Verdict::Done => {
             lines(sheet, 0, sheet.len());
             say(b"accepted: ");
-            counted(sheet.len() as u64, b"byte\n", b"bytes\n");
+            counted(sheet.len() as u64, b"byte", b"bytes");
         }
         Verdict::Refused(why, place) => {
             lines(sheet, 0, last_place(why, place, sheet.len()));
@@ -53,6 +54,7 @@ fn list(sheet: &[u8]) {
             explained(why);
         }
     }
+    write_output(b"\n");
 }
 
 // Reads the file that the first argument names, or standard input if there is none.

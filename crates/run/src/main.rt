@@ -7,6 +7,7 @@ use words::argument::number_argument;
 use words::file::Stop;
 use words::file::read_argument;
 use words::file::write_argument;
+use words::file::write_output;
 use words::memory::changed;
 use words::number::Decimal;
 use words::refusal::explained;
@@ -49,11 +50,28 @@ fn verdict_words(v: Verdict, sheet: &[u8]) {
             refused(why, place);
             say(b"\n");
             explained(why);
+            say(b"\n");
             if why.number() != 15 {
                 lines(sheet, place, place);
             }
         }
     }
+}
+
+// Writes how many bytes of a memory changed. One of more than 65,536 bytes was not read to its end.
+fn last_line(before: &[u8], after: &[u8]) {
+    decimal(changed(before, after) as u64);
+    say(b" of ");
+    if 65536 < before.len() {
+        say(b"more than 65,536 memory bytes changed");
+    } else {
+        counted(
+            before.len() as u64,
+            b"memory byte changed",
+            b"memory bytes changed",
+        );
+    }
+    write_output(b"\n");
 }
 
 // Writes all that a run came to.
@@ -65,13 +83,7 @@ fn answer_words(a: Answer, sheet: &[u8], before: &[u8], after: &[u8]) {
     counted(report.passes, b"pass, ", b"passes, ");
     counted(report.calculations, b"calculation\n", b"calculations\n");
     registers(machine);
-    decimal(changed(before, after) as u64);
-    say(b" of ");
-    counted(
-        before.len() as u64,
-        b"memory byte changed\n",
-        b"memory bytes changed\n",
-    );
+    last_line(before, after);
 }
 
 // Writes the memory to the fourth argument's file. One of more than 65,536 bytes was not read to its end, so it is not written.

@@ -1,10 +1,13 @@
-// Reads a nest from standard input and writes its sheet to standard output, or nothing if it is refused.
+// Reads a nest from standard input and writes its sheet to standard output, or nothing if it is refused; why it is refused is said on
+// standard error.
+use codec::refusal::Refusal;
+use libc::STDERR_FILENO;
 use translator::nest::Translated;
 use translator::translate::translate;
 use words::argument::asks_for_help;
 use words::argument::complain;
-use words::file::Stop;
 use words::file::read_input;
+use words::file::write_output;
 use words::text::say;
 
 fn help() {
@@ -25,19 +28,48 @@ all groups but the last; a signed n is written as 2n, or as -2n-1 if it is below
                  each loop, innermost first
 
 A loop's count is its number plus each term times that outer loop's index. At each visit the destination
-becomes the operation of both sources.
+becomes the operation of both sources. If the nest is refused, standard error says `refused N at P`, the
+refusal's number and place, and why.
 ",
     );
 }
 
-// Writes the sheet of a nest.
+// Says what a refusal means in a nest.
+fn meaning(why: Refusal) {
+    match why {
+        Refusal::BadNumber => complain(b"a number is cut off, too long or not shortest\n"),
+        Refusal::OutOfRange => complain(b"a number out of its range, or bytes after the nest\n"),
+        Refusal::TooMany => complain(b"more than eight terms are not 0\n"),
+        Refusal::LowHigh => complain(b"a loop's count can fall below 0 or rise above 4,096\n"),
+        Refusal::Product => complain(
+            b"the product of the loops' largest counts is above 1,048,576\n",
+        ),
+        _ => complain(b"there is no room for the sheet\n"),
+    }
+}
+
+// Says on standard error why there is no sheet.
+fn say_refused(answer: Translated) {
+    let Translated::Refused(why, place) = answer else {
+        return;
+    };
+    complain(b"refused ");
+    io::print_decimal(STDERR_FILENO, why.number());
+    complain(b" at ");
+    io::print_decimal(STDERR_FILENO, place as u64);
+    complain(b": ");
+    meaning(why);
+}
+
+// Writes the sheet of a nest, or says why there is none.
 fn write_sheet(nest: &[u8]) {
     let mut room = [0u8; 1024];
     let answer = translate(nest, &mut room);
     let Translated::Sheet(behind) = answer else {
+        say_refused(answer);
         return;
     };
-    io::write_all(1, &room[..behind]);
+    write_output(&room[..behind]);
 }
 
 fn main() {
@@ -49,14 +81,12 @@ fn main() {
         complain(b"translate takes no arguments\nusage: translate < NEST > SHEET\n");
         return;
     }
-    // No nest is longer than 195 bytes: one that fills this buffer is refused as it is for the bytes after it.
+    // No nest is longer than 195 bytes: one that fills this buffer is refused as the whole of it is.
     let mut nest = [0u8; 257];
     let taken = read_input(&mut nest);
     let n = taken.count;
     let stop = taken.stop;
-    match stop {
-        Stop::Failed => {}
-        Stop::Full => {}
-        Stop::Ended => write_sheet(&nest[..n]),
+    if !stop.failed() {
+        write_sheet(&nest[..n]);
     }
 }

@@ -145,6 +145,13 @@ pub fn read_input(out: &mut [u8]) -> Taken
     taken
 }
 
+// Writes bytes to standard output, and says on standard error why they cannot be written.
+pub fn write_output(bytes: &[u8]) {
+    if !io::write_all(libc::STDOUT_FILENO, bytes) {
+        os::fail(b"standard output");
+    }
+}
+
 // Writes bytes to an open file and closes it; whether both went well.
 fn put(fd: i32, bytes: &[u8], path: &[u8]) -> bool {
     if !io::write_all(fd, bytes) {

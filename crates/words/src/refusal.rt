@@ -47,7 +47,7 @@ fn hint(r: Refusal) {
             b"seven bits to a byte, lowest first, 80h added to all but the last; below 2^32, no 00 at the end",
         ),
         Refusal::OutOfRange => say(
-            b"registers go to 31, sizes to 4,096, other amounts to 1,048,576, calculations to 16; a copy names its source twice",
+            b"registers 0 to 31, sizes to 4,096, other amounts to 1,048,576, calculations 1 to 16; a copy names its source twice; the run is last",
         ),
         Refusal::FixedBits => say(
             b"bits 6-0 are 0001011, 21-20 and 26-25 are 00; 29-27 are 000 if 30 is clear, and never 111",
@@ -68,9 +68,11 @@ fn hint(r: Refusal) {
         Refusal::StreamEnded => say(
             b"each calculation that reads a stream takes a chunk of its own: copy one to a plain register to use it twice",
         ),
-        Refusal::Widths => say(b"both sources, and a store stream, have one width"),
+        Refusal::Widths => say(
+            b"both sources, and a store stream, have one width; a fresh register has width 1",
+        ),
         Refusal::LaneCounts => say(
-            b"give the streams of a calculation the same sizes, modifiers and coupling",
+            b"give the streams of a calculation the same sizes, modifiers and coupling; a fresh register has no lanes",
         ),
         Refusal::Outside => say(
             b"its address is below 0, or its last byte lies behind the memory's end",
@@ -83,10 +85,9 @@ fn hint(r: Refusal) {
     }
 }
 
-// Writes two lines on a refusal: what it means, and a hint.
+// Writes two lines on a refusal, the second without its end: what it means, and a hint.
 pub fn explained(r: Refusal) {
     meaning(r);
     say(b"\nhint: ");
     hint(r);
-    say(b"\n");
 }

@@ -18,11 +18,14 @@ use engine::outline::Extent;
 use engine::outline::Outline;
 use engine::outline::outline_of;
 
-// Where the walk over a sheet stands: the place of the next operation, how many came before it, the register opened last, what each
-// register has been given, and whether the walk is over.
+// Where the walk over a sheet stands: the place of the next operation; the last place up to it at which no register was being configured,
+// how many operations came from there on, and how many registers are being configured; the register opened last, what each register has
+// been given, and whether the walk is over.
 struct Walk {
     place: usize,
+    since: usize,
     passed: usize,
+    configuring: usize,
     opened: usize,
     given: [Given; 32],
     over: bool,
@@ -139,6 +142,17 @@ fn opened_by(o: Operation, opened: usize) -> usize {
     }
 }
 
+// How many registers are being configured when an operation has passed.
+fn configuring_by(o: Operation, configuring: usize) -> usize {
+    match o {
+        Operation::Open(h, base) => std::num::wrapping_add_usize(configuring, 1),
+        Operation::Dimension(d) => configuring,
+        Operation::Modifier(m) => configuring,
+        Operation::End(i) => std::num::wrapping_sub_usize(configuring, 1),
+        Operation::Run(i, n) => configuring,
+    }
+}
+
 // The walk when an operation has passed.
 fn passed_by(w: Walk, o: Operation, behind: usize) -> Walk {
     let i = register_of(o);
@@ -147,10 +161,25 @@ fn passed_by(w: Walk, o: Operation, behind: usize) -> Walk {
     if i < 32 {
         given[i] = g;
     }
+    let configuring = configuring_by(o, w.configuring);
+    let opened = opened_by(o, w.opened);
+    if configuring == 0 {
+        return Walk {
+            place: behind,
+            since: behind,
+            passed: 0,
+            configuring,
+            opened,
+            given,
+            over: false,
+        };
+    }
     Walk {
         place: behind,
+        since: w.since,
         passed: std::num::wrapping_add_usize(w.passed, 1),
-        opened: opened_by(o, w.opened),
+        configuring,
+        opened,
         given,
         over: false,
     }
@@ -161,7 +190,9 @@ fn over(w: Walk) -> Walk {
     let given = w.given;
     Walk {
         place: w.place,
+        since: w.since,
         passed: w.passed,
+        configuring: w.configuring,
         opened: w.opened,
         given,
         over: true,
@@ -185,12 +216,16 @@ fn extent(e: Extent) {
     signed(last.0);
 }
 
-// Writes the shape of the stream that an operation ends, if it does that: the outline after so many operations of the sheet.
-fn shape(sheet: &[u8], most: usize, o: Operation) {
+// Writes the shape of the stream that an operation ends, if it does that: the outline after so many operations of the sheet, from a place
+// on. No register was being configured there, so that all operations on the stream, and on those begun with it, are among these.
+fn shape(sheet: &[u8], since: usize, most: usize, o: Operation) {
     let Operation::End(i) = o else {
         return;
     };
-    let outline = outline_of(sheet, most, i);
+    if sheet.len() < since {
+        return;
+    }
+    let outline = outline_of(&sheet[since..], most, i);
     let Outline::Stream(e) = outline else {
         return;
     };
@@ -204,7 +239,7 @@ fn operation_line(sheet: &[u8], w: Walk, o: Operation, behind: usize, last: usiz
     columns(sheet, w.place, behind);
     operation(o, given_to(given, i), w.opened == i);
     if w.place < last {
-        shape(sheet, std::num::wrapping_add_usize(w.passed, 1), o);
+        shape(sheet, w.since, std::num::wrapping_add_usize(w.passed, 1), o);
     }
     say(b"\n");
 }
@@ -285,7 +320,9 @@ fn step(sheet: &[u8], w: Walk, from: usize, to: usize) -> Walk {
 pub fn lines(sheet: &[u8], first: usize, last: usize) {
     let mut walk = Walk {
         place: 0,
+        since: 0,
         passed: 0,
+        configuring: 0,
         opened: 32,
         given: [Given { dims: 0, mods: 0 }; 32],
         over: false,

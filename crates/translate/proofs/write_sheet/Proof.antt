@@ -44,6 +44,9 @@ enum-known-answer c = search needs
 enum-told : tie.Need-enum-told
 enum-told c = search needs
 
+say-refused-requires : tie.Need-say-refused-requires
+say-refused-requires c κs = search needs
+
 returns : tie.Need-returns
 returns c = search needs
 
@@ -52,13 +55,13 @@ array-share-prefix-room c =
     let n : length (c .before .before .before .before .translate .last .1 .0) ≡ 1024 = search needs in
     omega (arith, small (c .before))
 
-slice-aggregate-write-all : tie.Need-slice-aggregate-write-all
-slice-aggregate-write-all c =
+slice-aggregate-write-output : tie.Need-slice-aggregate-write-output
+slice-aggregate-write-output c =
     let n : length (c .before .before .before .before .before .translate .last .1 .0) ≡ 1024 = search needs in
     sym (length-take-le _ (c .before .before .before .before .before .translate .last .1 .0) (omega (arith, small (c .before .before))))
 
-write-all-requires : tie.Need-write-all-requires
-write-all-requires c κs = search needs
+write-output-requires : tie.Need-write-output-requires
+write-output-requires c κs = search needs
 
 returns-2 : tie.Need-returns-2
 returns-2 c = search needs
@@ -71,8 +74,9 @@ write-sheet-spec =
     translate-requires
     enum-known-answer
     enum-told
+    say-refused-requires
     returns
     array-share-prefix-room
-    slice-aggregate-write-all
-    write-all-requires
+    slice-aggregate-write-output
+    write-output-requires
     returns-2)
