@@ -90,8 +90,8 @@ unfoldable pub sheetFor : List ℕ → ℕ → List ℕ
 sheetFor s n = roomAfter (nestAt s) (replicate n 0)
 
 -- what translating a nest's bytes answers, for a room of n bytes
-unfoldable pub answerFor : List ℕ → ℕ → Answered
-answerFor s n = asTranslated (translated (nestAt s) n)
+unfoldable pub translateAnswerFor : List ℕ → ℕ → Answered
+translateAnswerFor s n = asTranslated (translated (nestAt s) n)
 
 -- ---- sheets
 
@@ -101,13 +101,13 @@ pub sheets :
     ≡ 0x01 ∷ 0x8b ∷ 0x81 ∷ 0x01 ∷ 0x00 ∷ 0x02 ∷ 0x01 ∷ 0x00 ∷ 0x03 ∷ 0x02 ∷ 0x04 ∷ 0x01 ∷ 0x01 ∷ 0x8b ∷ 0x82 ∷ 0x01 ∷ 0x08 ∷ 0x02
     ∷ 0x02 ∷ 0x00 ∷ 0x03 ∷ 0x02 ∷ 0x04 ∷ 0x02 ∷ 0x01 ∷ 0x8b ∷ 0x03 ∷ 0x10 ∷ 0x02 ∷ 0x03 ∷ 0x00 ∷ 0x03 ∷ 0x02 ∷ 0x04 ∷ 0x03 ∷ 0x05
     ∷ 0x01 ∷ 0x01 ∷ 0x01 ∷ 0x03 ∷ 0x01 ∷ 0x02 ∷ [])
-    × (answerFor oneBytes 42 ≡ sheet 42)
-    × (answerFor oneBytes 41 ≡ refusal 17 0 0 0)
+    × (translateAnswerFor oneBytes 42 ≡ sheet 42)
+    × (translateAnswerFor oneBytes 41 ≡ refusal 17 0 0 0)
     × (sheetFor oneBytes 41 ≡ replicate 41 0)
     × (sheetFor oneBytes 50 ≡ sheetFor oneBytes 42 ++ replicate 8 0)
 unfolding numberAt groupsAt signedOf groupsOf wordOf operationBytes calculationBytes
     termFields loopFields strideFields Reading.readFrom nestAt nonzeroFor nonzeroFrom total highsFrom lowOrHighFrom product firstOf
-    modifiersAt modifiersFrom dimensionOps bytesOfAll sheetOf oneBytes sheetFor answerFor
+    modifiersAt modifiersFrom dimensionOps bytesOfAll sheetOf oneBytes sheetFor translateAnswerFor
 sheets = (refl, refl, refl, refl, refl)
 
 -- ---- three loops

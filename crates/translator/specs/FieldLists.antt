@@ -21,7 +21,7 @@ each-next Q o n here rest k l u = go (decLt o k)
     go (no q) = let e : o ≡ k = omega arith in subst Q e here
 
 module _ (P : Field → Type 0) where
-  -- it holds of each
+  -- P holds of each field of a list
   unfoldable pub All : List Field → Type 0
   All [] = Unit {0}
   All (f ∷ fs) = P f × All fs

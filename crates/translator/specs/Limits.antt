@@ -29,7 +29,7 @@ use Rattle.translator.specs.declared.nest.Nest.{Nest}
 unfoldable pub wideBytes : List ℕ
 wideBytes = 0x00 ∷ 0x01 ∷ 0x00 ∷ 0x01 ∷ 0x80 ∷ 0x20 ∷ 0x00 ∷ 0x02 ∷ 0x80 ∷ 0x20 ∷ 0x02 ∷ 0x80 ∷ 0xe0 ∷ 0x03 ∷ 0x02 ∷ []
 
--- its numbers
+-- the numbers of the loop of 4,096
 unfoldable pub wide : Nest
 wide = theNest (nestAt wideBytes)
 
@@ -44,7 +44,7 @@ millionBytes =
     ∷ 0xa0 ∷ 0xf8 ∷ 0x01 ∷ 0x02 ∷ 0x40
     ∷ []
 
--- its numbers
+-- the numbers of the 1,024 x 1,024
 unfoldable pub million : Nest
 million = theNest (nestAt millionBytes)
 

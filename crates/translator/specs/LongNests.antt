@@ -15,7 +15,7 @@ use Rattle.translator.specs.Fields.{termFields, loopFields, strideFields
 use Rattle.translator.specs.NestRules.{nonzeroFor, nonzeroFrom, total, highsFrom, lowOrHighFrom}
 use Rattle.translator.specs.Reading.{nestAt}
 use Rattle.translator.specs.Reading
-use Rattle.translator.specs.RefusedNests.{accepted, no, heard}
+use Rattle.translator.specs.RefusedNests.{accepted, refusedWith, judged}
 
 -- n times the same bytes
 unfoldable pub times : ℕ → List ℕ → List ℕ
@@ -55,10 +55,10 @@ longestAccepted =
 -- 21 terms are too many: 6; with eight of them it is accepted
 pub lengths :
     (length longest ≡ 195)
-    × (heard (nestAt longest) ≡ no 6 0)
+    × (judged (nestAt longest) ≡ refusedWith 6 0)
     × (length longestAccepted ≡ 151)
-    × (heard (nestAt longestAccepted) ≡ accepted)
+    × (judged (nestAt longestAccepted) ≡ accepted)
 unfolding numberAt groupsAt signedOf termFields loopFields strideFields Reading.readFrom nestAt
-    nonzeroFor nonzeroFrom total highsFrom lowOrHighFrom product firstOf heard
+    nonzeroFor nonzeroFrom total highsFrom lowOrHighFrom product firstOf judged
     times longCount longTerm longAccess longLoop longest longestAccepted
 lengths = (refl, refl, refl, refl)

@@ -19,9 +19,9 @@ use Rattle.codec.specs.StandingLaws.{stands-none, stands-front, stands-back}
 use Rattle.engine.specs.Promise1.{NumberAt}
 use Rattle.translator.specs.Fields.{Role, Field, width, loops, coupled, operation, count, term, base, stride, rangeOf, Holds, accessOf, put, numberIn}
 use Rattle.translator.specs.FieldLists.{All}
-use Rattle.translator.specs.PlaceLaws.{place, Sized, Fits, put-sized, number-put, number-kept}
+use Rattle.translator.specs.PlaceLaws.{place, Sized, HasPlace, put-sized, number-put, number-kept}
 use Rattle.translator.specs.SameNests.{Based, put-based}
-use Rattle.translator.specs.FieldPlaces.{Fresh, Apart}
+use Rattle.translator.specs.FieldPlaces.{Fresh, Distinct}
 use Rattle.translator.specs.Reading.{numbersBytes}
 use Rattle.translator.specs.Acceptance.{Stand}
 use Rattle.translator.specs.declared.nest.Nest.{Nest}
@@ -65,13 +65,13 @@ module _ (s : List ℕ) where
 
   -- what is put in first is there at the end
   first-given : (f : Field) (fs : List Field) (v at to : ℕ) (m n : Nest) → Holds (rangeOf (m .loops) f) v → Stand s fs at (put f v m) to n
-      → Sized m → Fits f → Fresh (place f) fs → numberIn f n ≡ v
+      → Sized m → HasPlace f → Fresh (place f) fs → numberIn f n ≡ v
   first-given f fs v at to m n h k l u a = stand-kept fs at to (put f v m) n k f a ∙ number-put f v m (m .loops) h l u
 
   -- the nest's own numbers stand there
-  pub stand-bytes : (fs : List Field) (at to : ℕ) (m n : Nest) → Stand s fs at m to n → at ≤ length s → Sized m → Apart fs → All Fits fs
+  pub stand-bytes : (fs : List Field) (at to : ℕ) (m n : Nest) → Stand s fs at m to n → at ≤ length s → Sized m → Distinct fs → All HasPlace fs
       → Stands s at (numbersBytes n fs) to
-  unfolding Stand All Apart numbersBytes
+  unfolding Stand All Distinct numbersBytes
   stand-bytes [] at to m n h b l a u = subst (Stands s at []) (h .0) (stands-none s at b)
   stand-bytes (f ∷ fs) at to m n h b l a u =
       let e : numberIn f n ≡ h .0 = first-given f fs (h .0) (h .1) to m n (h .3) (h .4) l (u .0) (a .0) in
@@ -80,9 +80,9 @@ module _ (s : List ℕ) where
       (stand-bytes fs (h .1) to (put f (h .0) m) n (h .4) (h .2 .stands .within) (put-sized f (h .0) m (m .loops) (h .3) l) (a .1) (u .1))
 
   -- each in its range
-  pub stand-holds : (fs : List Field) (at to : ℕ) (m n : Nest) → Stand s fs at m to n → Sized m → Apart fs → All Fits fs → Fresh (place loops) fs
+  pub stand-holds : (fs : List Field) (at to : ℕ) (m n : Nest) → Stand s fs at m to n → Sized m → Distinct fs → All HasPlace fs → Fresh (place loops) fs
       → All (λ f. Holds (rangeOf (m .loops) f) (numberIn f n)) fs
-  unfolding Stand All Apart
+  unfolding Stand All Distinct
   stand-holds [] at to m n h l a u q = tt
   stand-holds (f ∷ fs) at to m n h l a u q =
       let e : numberIn f n ≡ h .0 = first-given f fs (h .0) (h .1) to m n (h .3) (h .4) l (u .0) (a .0) in
@@ -146,9 +146,9 @@ module _ (n : Nest) (D : ℕ) where
   copied-kept (f ∷ fs) m r g u = copied-kept fs (put f (numberIn f n) m) (r .1) g (u .1) ∙ number-kept f g (numberIn f n) m D (r .0) (u .0)
 
   -- each is there
-  pub copied-there : (fs : List Field) (m : Nest) → All (λ f. Holds (rangeOf D f) (numberIn f n)) fs → Sized m → Apart fs → All Fits fs
+  pub copied-there : (fs : List Field) (m : Nest) → All (λ f. Holds (rangeOf D f) (numberIn f n)) fs → Sized m → Distinct fs → All HasPlace fs
       → All (λ f. numberIn f (copied fs m n) ≡ numberIn f n) fs
-  unfolding All Apart copied
+  unfolding All Distinct copied
   copied-there [] m r l a u = tt
   copied-there (f ∷ fs) m r l a u = (
     copied-kept fs (put f (numberIn f n) m) (r .1) f (a .0) ∙ number-put f (numberIn f n) m D (r .0) l (u .0),

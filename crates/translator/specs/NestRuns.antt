@@ -1,6 +1,8 @@
 -- Nests translated and run, computed from the definitions: the plain loop's memory.
 --
---   runs, runThree
+--   bytes, spread                        memories
+--   plainFor, runMemoryFor, runAnswerFor   the memory after the plain loop; the memory after a run, and its answer
+--   runs, runThree                       01's nest, a triangle and the nest of three loops, run
 use Prim.Native.Nat.{ℕ, zero, suc, _*_, _%_}
 use mathlib.Core.Path.{_≡_, refl}
 use mathlib.Core.List.{List, [], _∷_, _++_}
@@ -42,12 +44,12 @@ plainFor (refused x at) memory = []
 plainFor (nest m) memory = plainLoop m memory
 
 -- memory after a nest's bytes were translated and run
-unfoldable pub ranFor : ℕ → List ℕ → List ℕ → List ℕ
-ranFor vl s memory = runNest vl s memory .progress .world .memory
+unfoldable pub runMemoryFor : ℕ → List ℕ → List ℕ → List ℕ
+runMemoryFor vl s memory = runNest vl s memory .progress .world .memory
 
 -- the answer of translating and running a nest's bytes
-unfoldable pub answerOf : ℕ → List ℕ → List ℕ → Answered
-answerOf vl s memory = asOutcome (runNest vl s memory)
+unfoldable pub runAnswerFor : ℕ → List ℕ → List ℕ → Answered
+runAnswerFor vl s memory = asOutcome (runNest vl s memory)
 
 -- the triangle: rows of 1, 2, 3 and 4 sums, the bytes behind each row as they were
 unfoldable pub sums : List ℕ
@@ -55,23 +57,23 @@ sums = bytes 1 20 ++ (18 ∷ 22 ∷ 23 ∷ 24 ∷ 23 ∷ 24 ∷ 27 ∷ 28 ∷ 28
 
 -- 15 first; a nest's refusal; an element outside; the triangle, at two vector lengths and coupled
 pub runs :
-    (answerOf 12 [] [] ≡ refusal 15 0 0 0)
-    × (answerOf 8 (take 10 oneBytes) [] ≡ refusal 1 10 0 0)
-    × (answerOf 8 oneBytes (bytes 1 19) ≡ done 1 1)
-    × (ranFor 8 oneBytes (bytes 1 19) ≡ bytes 1 16 ++ (10 ∷ 12 ∷ 14 ∷ []))
+    (runAnswerFor 12 [] [] ≡ refusal 15 0 0 0)
+    × (runAnswerFor 8 (take 10 oneBytes) [] ≡ refusal 1 10 0 0)
+    × (runAnswerFor 8 oneBytes (bytes 1 19) ≡ done 1 1)
+    × (runMemoryFor 8 oneBytes (bytes 1 19) ≡ bytes 1 16 ++ (10 ∷ 12 ∷ 14 ∷ []))
     × (plainFor (nestAt oneBytes) (bytes 1 19) ≡ bytes 1 16 ++ (10 ∷ 12 ∷ 14 ∷ []))
-    × (answerOf 8 oneBytes (bytes 1 18) ≡ refusal 14 38 0 0)
-    × (ranFor 8 oneBytes (bytes 1 18) ≡ bytes 1 18)
+    × (runAnswerFor 8 oneBytes (bytes 1 18) ≡ refusal 14 38 0 0)
+    × (runMemoryFor 8 oneBytes (bytes 1 18) ≡ bytes 1 18)
     × (plainFor (nestAt (triangleBytes 0)) (bytes 1 36) ≡ sums)
-    × (answerOf 8 (triangleBytes 0) (bytes 1 36) ≡ done 2 2)
-    × (ranFor 8 (triangleBytes 0) (bytes 1 36) ≡ sums)
-    × (answerOf 16 (triangleBytes 0) (bytes 1 36) ≡ done 1 1)
-    × (ranFor 16 (triangleBytes 0) (bytes 1 36) ≡ sums)
-    × (answerOf 8 (triangleBytes 1) (bytes 1 36) ≡ done 4 4)
-    × (ranFor 8 (triangleBytes 1) (bytes 1 36) ≡ sums)
+    × (runAnswerFor 8 (triangleBytes 0) (bytes 1 36) ≡ done 2 2)
+    × (runMemoryFor 8 (triangleBytes 0) (bytes 1 36) ≡ sums)
+    × (runAnswerFor 16 (triangleBytes 0) (bytes 1 36) ≡ done 1 1)
+    × (runMemoryFor 16 (triangleBytes 0) (bytes 1 36) ≡ sums)
+    × (runAnswerFor 8 (triangleBytes 1) (bytes 1 36) ≡ done 4 4)
+    × (runMemoryFor 8 (triangleBytes 1) (bytes 1 36) ≡ sums)
 unfolding termFields loopFields strideFields Reading.readFrom nestAt nonzeroFor nonzeroFrom total highsFrom lowOrHighFrom
     termsAt countAt visits placeUpTo plainOver modifiersAt modifiersFrom dimensionOps bytesOfAll sheetOf runNest
-    oneBytes triangleBytes bytes plainFor ranFor answerOf sums
+    oneBytes triangleBytes bytes plainFor runMemoryFor runAnswerFor sums
     groupsOf wordOf operationBytes calculationBytes
     groupsAt numberAt signedOf headerSaid headerOf openAt dimensionAt modifierAt endAt runAt operationAt calculationAt
     sizeAt added span loops elements passes withElements groups leftAfter chunkOf differ height only highs Rules.lowOrHighFrom product
@@ -87,12 +89,12 @@ spread k (suc n) = k * 37 % 256 ∷ spread (suc k) n
 
 -- the nest of three loops: 8 visits in chunks of 2, 4 and 2; three of them write to 500, two to 504
 pub runThree :
-    (answerOf 8 threeBytes (spread 1 510) ≡ done 3 3)
-    × (ranFor 8 threeBytes (spread 1 510) ≡ plainFor (nest three) (spread 1 510))
-    × (answerOf 8 threeBytes (spread 1 509) ≡ refusal 14 132 2 2)
+    (runAnswerFor 8 threeBytes (spread 1 510) ≡ done 3 3)
+    × (runMemoryFor 8 threeBytes (spread 1 510) ≡ plainFor (nest three) (spread 1 510))
+    × (runAnswerFor 8 threeBytes (spread 1 509) ≡ refusal 14 132 2 2)
 unfolding termFields loopFields strideFields Reading.readFrom nestAt nonzeroFor nonzeroFrom total highsFrom lowOrHighFrom
     termsAt countAt visits placeUpTo plainOver modifiersAt modifiersFrom dimensionOps bytesOfAll sheetOf runNest
-    threeBytes three spread plainFor ranFor answerOf
+    threeBytes three spread plainFor runMemoryFor runAnswerFor
     groupsOf wordOf operationBytes calculationBytes
     groupsAt numberAt signedOf headerSaid headerOf openAt dimensionAt modifierAt endAt runAt operationAt calculationAt
     sizeAt added span loops elements passes withElements groups leftAfter chunkOf differ height only highs Rules.lowOrHighFrom product

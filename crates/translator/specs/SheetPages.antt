@@ -4,6 +4,7 @@
 --   Writable                       operations that can all be written
 --   page-then, last-on             where there is room for them, they stand on the page
 --   sheet-writable                 the operations of a nest in range can all be written
+--   AtFront                        bytes at the front of a page, and nothing behind them
 --   sheet-page                     the page of an accepted nest
 use Prim.Native.Nat.{ℕ, zero, suc, _+_, _≤_, _<_}
 use mathlib.Core.Path.{_≡_, refl, _∙_, ap}
@@ -167,14 +168,14 @@ sheet-writable m r =
 
 -- ---- the page
 
--- the bytes stand at the front of a page, and the place behind them is their number
-pub record Holds (p : Page) (bytes : List ℕ) : Type 0 where
+-- bytes that stand at the front of a page, the place behind them being their number
+pub record AtFront (p : Page) (bytes : List ℕ) : Type 0 where
   pub behind : p .at ≡ length bytes
   pub front : take (length bytes) (p .bytes) ≡ bytes
   pub fits : length bytes ≤ 1024
 
 -- bytes on a blank page
-blank-on : (b : Page) (bytes : List ℕ) → Blank b → length bytes ≤ 1024 → Holds (onPage bytes b) bytes
+blank-on : (b : Page) (bytes : List ℕ) → Blank b → length bytes ≤ 1024 → AtFront (onPage bytes b) bytes
 blank-on b bytes e h = record {
   behind = rw (e .start) (omega arith);
   front = rw (e .start, sets-eq bytes (b .bytes) 0 (omega (arith, e .long))) (take-append-seam bytes _);
@@ -219,5 +220,5 @@ module _ (m : Nest) (p : Page) (a : Accepted m) (s : SheetPage m p) where
       ∙ ap (λ l. onPage l b) sheet-is
 
   -- it holds the sheet's bytes
-  pub sheet-page : Holds p (sheetOf m)
+  pub sheet-page : AtFront p (sheetOf m)
   sheet-page = rw sheet-on (blank-on (s .blank) (sheetOf m) (s .empty) (omega (arith, sheet-most m (a .range .loops-most) (a .few))))

@@ -7,8 +7,7 @@ use codec::header::Width;
 use codec::operation::Action;
 ghost use Prim.Native.Nat.{_<_, _≤_};
 ghost use mathlib.Core.Path.{_≡_};
-ghost use Rattle.translator.specs.Fields.{noAccess, noNest, nestOf, withAccess, first, second, destination, withBase, withStride, put, count};
-ghost use Rattle.translator.specs.Parts.{withTerm};
+ghost use Rattle.translator.specs.Fields.{noAccess, noNest, nestOf, withAccess, first, second, destination, withBase, withStride, withTerm, put, count};
 
 fn no_access() -> Access
     ensures { λ r. ⌜ r ≡ noAccess ⌝ }
