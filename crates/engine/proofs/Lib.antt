@@ -10,7 +10,7 @@ mod Lasts
 mod Moves
 mod Lengths
 mod Cuts
-mod ByteSteps
+pub mod ByteSteps
 mod PlaceSteps
 mod LaneSteps
 mod StretchSteps

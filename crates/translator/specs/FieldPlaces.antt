@@ -22,19 +22,19 @@ unfoldable pub Distinct : List Field → Type 0
 Distinct [] = Unit {0}
 Distinct (f ∷ fs) = Fresh (place f) fs × Distinct fs
 
--- what follows holds of each too
+-- what follows from what holds of each field of a list holds of each too
 all-map : (P Q : Field → Type 0) → ((f : Field) → P f → Q f) → (fs : List Field) → All P fs → All Q fs
 unfolding All
 all-map P Q h [] k = tt
 all-map P Q h (f ∷ fs) k = (h f (k .0), all-map P Q h fs (k .1))
 
--- two lists joined
+-- two lists joined are distinct if both are, and no place of the first is one of the second
 distinct-append : (xs ys : List Field) → Distinct xs → Distinct ys → All (λ f. Fresh (place f) ys) xs → Distinct (xs ++ ys)
 unfolding All Distinct
 distinct-append [] ys a b h = b
 distinct-append (x ∷ xs) ys a b h = (all-append (λ f. place f ≡ place x → ⊥) xs ys (a .0) (h .0), distinct-append xs ys (a .1) b (h .1))
 
--- one list's places below a number, the other's from it on
+-- two lists joined are distinct if both are, the places of the first below a number and those of the second from it on
 distinct-join : (k : ℕ) (xs ys : List Field) → Distinct xs → Distinct ys → All (λ f. place f < k) xs → All (λ f. k ≤ place f) ys → Distinct (xs ++ ys)
 distinct-join k xs ys a b h l =
     distinct-append xs ys a b
@@ -43,25 +43,25 @@ distinct-join k xs ys a b h l =
 
 -- ---- the fields of a nest
 
--- the terms of a loop
+-- the terms of a loop stand at different places
 terms-distinct : (t o n : ℕ) → Distinct (termFields t o n)
 unfolding All Distinct termFields
 terms-distinct t o zero = tt
 terms-distinct t o (suc n) = (all-terms (λ f. place f ≡ place (term t o) → ⊥) t (suc o) n .1 (λ k l u e. omega arith), terms-distinct t (suc o) n)
 
--- strides
+-- the strides of an access stand at different places
 strides-distinct : (a : Role) (d n : ℕ) → Distinct (strideFields a d n)
 unfolding All Distinct strideFields
 strides-distinct a d zero = tt
 strides-distinct a d (suc n) =
     (all-strides (λ f. place f ≡ place (stride a d) → ⊥) a (suc d) n .1 (λ k l u e. omega arith), strides-distinct a (suc d) n)
 
--- an access
+-- the numbers of an access stand at different places
 access-distinct : (a : Role) (D : ℕ) → Distinct (accessFields a D)
 unfolding All Distinct
 access-distinct a D = (all-strides (λ f. place f ≡ place (base a) → ⊥) a 0 D .1 (λ k l u e. omega arith), strides-distinct a 0 D)
 
--- loops
+-- the numbers of the loops stand at different places
 loops-distinct : (t n : ℕ) → t + n ≤ 7 → Distinct (loopFields t n)
 unfolding All Distinct loopFields
 loops-distinct t zero h = tt
@@ -97,7 +97,7 @@ access-places : (P : ℕ → Type 0) (a : Role) (D : ℕ) → ((i : ℕ) → i �
 access-places P a D k =
     all-access (λ f. P (place f)) D a .1 (record { base = k 0 (omega arith); strides = λ d u. k (suc d) (omega arith) })
 
--- all three accesses
+-- the numbers of all three accesses stand at different places
 accesses-distinct : (D : ℕ) → D ≤ 7 → Distinct (accessFields first D ++ (accessFields second D ++ accessFields destination D))
 accesses-distinct D h =
     distinct-join 256 (accessFields first D) (accessFields second D ++ accessFields destination D)
@@ -110,7 +110,7 @@ accesses-distinct D h =
     (access-places (λ k. 256 ≤ k) second D (λ i u. omega arith))
     (access-places (λ k. 256 ≤ k) destination D (λ i u. omega arith)))
 
--- all behind the first four
+-- the numbers behind the first four stand at different places
 rest-distinct : (D : ℕ) → D ≤ 7 → Distinct (restFields D)
 rest-distinct D h =
     distinct-join 192 (loopFields 0 D) (accessFields first D ++ (accessFields second D ++ accessFields destination D))
@@ -154,7 +154,7 @@ access-fits first i h = h
 access-fits second i h = h
 access-fits destination i h = h
 
--- each has a place
+-- every number of a nest has a place
 pub fields-placed : (D : ℕ) → D ≤ 7 → All HasPlace (fieldsOf D)
 unfolding All
 fields-placed D h = (omega arith, (omega arith, (omega arith, (omega arith, rest))))
@@ -178,13 +178,13 @@ head-fresh k h = (λ e. omega arith, (λ e. omega arith, (λ e. omega arith, (λ
 fields-fresh : (D k : ℕ) → 4 ≤ k → Fresh k (restFields D) → Fresh k (fieldsOf D)
 fields-fresh D k h r = all-append (λ f. place f ≡ k → ⊥) headFields (restFields D) (head-fresh k h) r
 
--- the count of a loop that is not there
+-- no field stands at the place of the count of a loop that is not there
 pub count-fresh : (D t : ℕ) → D ≤ t → t < 7 → Fresh (place (count t)) (fieldsOf D)
 count-fresh D t h l =
     fields-fresh D (place (count t)) (omega arith)
     (rest-places (λ k. k ≡ place (count t) → ⊥) D (λ k u e. omega arith) (λ k o u v e. omega arith) (λ a i u e. omega (arith, part-least a)))
 
--- a term for a loop that is not outside, or not there
+-- no field stands at the place of a term for a loop that is not outside, or not there
 pub term-fresh : (D t o : ℕ) → D ≤ 7 → t < 7 → o < 7 → (o ≤ t) ⊎ (D ≤ o) → Fresh (place (term t o)) (fieldsOf D)
 term-fresh D t o h k l q =
     fields-fresh D (place (term t o)) (omega arith)
@@ -194,7 +194,7 @@ term-fresh D t o h k l q =
     other (inl x) i p u v e = omega arith
     other (inr x) i p u v e = omega arith
 
--- the stride for a loop that is not there
+-- no field stands at the place of the stride for a loop that is not there
 pub stride-fresh : (a : Role) (D d : ℕ) → D ≤ d → d < 7 → Fresh (place (stride a d)) (fieldsOf D)
 stride-fresh a D d h l =
     fields-fresh D (place (stride a d)) (omega (arith, part-least a))

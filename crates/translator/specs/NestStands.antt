@@ -38,7 +38,7 @@ none-sized (suc (suc (suc (suc zero)))) = refl
 none-sized (suc (suc (suc (suc (suc zero))))) = refl
 none-sized (suc (suc (suc (suc (suc (suc p)))))) = refl
 
--- and bases of 0
+-- the nest with no number yet has bases of 0
 pub none-based : (a : Role) → Based (accessOf a noNest)
 none-based first = refl
 none-based second = refl
@@ -60,13 +60,13 @@ access-ranged n D a b h = record {
   strides = λ d u. reached (getD (accessOf a n .strides) d noElements .0) (h .strides d u);
 }
 
--- every stride of it is 0
+-- every stride of the nest with no number yet is 0
 pub none-stride : (a : Role) (d : ℕ) → d < 7 → numberIn (stride a d) noNest ≡ 0
 none-stride first d h = ap strideNumber (getD-replicate 7 d noElements noElements h)
 none-stride second d h = ap strideNumber (getD-replicate 7 d noElements noElements h)
 none-stride destination d h = ap strideNumber (getD-replicate 7 d noElements noElements h)
 
--- and every term
+-- every term of the nest with no number yet is 0
 pub none-term : (t o : ℕ) → t < 7 → o < 7 → numberIn (term t o) noNest ≡ 0
 none-term t o h k = ap unsignedOf (getD-replicate 49 (termPlace t o) (pos 0) (pos 0) (omega arith))
 

@@ -28,11 +28,11 @@ use Rattle.translator.specs.declared.nest.Nest.{Nest}
 
 -- ---- places
 
--- the number of a stride
+-- a stride as it is written
 abbrev pub strideNumber : Elements → ℕ
 strideNumber e = unsignedOf (e .0)
 
--- the numbers of an access
+-- the numbers of an access: its base, then its strides
 abbrev pub accessNumbers : Access → List ℕ
 accessNumbers a = natAbs (a .base .0) ∷ map strideNumber (a .strides)
 
@@ -64,7 +64,7 @@ partNumber (term t o) = 2
 partNumber (base a) = accessPart a
 partNumber (stride a d) = accessPart a
 
--- where it stands in it
+-- where a number stands in its part
 abbrev pub indexOf : Field → ℕ
 indexOf width = 0
 indexOf loops = 1
@@ -75,15 +75,15 @@ indexOf (term t o) = termPlace t o
 indexOf (base a) = 0
 indexOf (stride a d) = suc d
 
--- both as one number
+-- the place of a number: its part and where it stands there, as one number
 abbrev pub place : Field → ℕ
 place f = 64 * partNumber f + indexOf f
 
--- what stands there
+-- the number that stands at the place of a field
 abbrev there : Nest → Field → ℕ
 there m f = getD (getD (partsOf m) (partNumber f) []) (indexOf f) 0
 
--- the number that is in stands at its place
+-- the number in a field stands at its place
 pub number-there : (f : Field) (m : Nest) → there m f ≡ numberIn f m
 number-there width m = refl
 number-there loops m = refl
@@ -135,15 +135,15 @@ put-parts (stride destination d) n m D h = ap (λ l. set (partsOf m) 5 (natAbs (
 
 -- ---- lengths
 
--- the lengths of the parts
+-- the lengths of the six parts
 abbrev pub sizes : List ℕ
 sizes = 4 ∷ 7 ∷ 49 ∷ 8 ∷ 8 ∷ 8 ∷ []
 
--- parts of the right lengths
+-- a nest whose parts have the right lengths
 abbrev pub Sized : Nest → Type 0
 Sized m = (p : ℕ) → length (getD (partsOf m) p []) ≡ getD sizes p 0
 
--- a number that has a place
+-- a field that has a place in its part
 abbrev pub HasPlace : Field → Type 0
 HasPlace f = indexOf f < getD sizes (partNumber f) 0
 
@@ -169,12 +169,12 @@ in-other (x ∷ l) zero i n (suc q) j h = refl
 in-other (x ∷ l) (suc p) i n zero j h = refl
 in-other (x ∷ l) (suc p) i n (suc q) j h = in-other l p i n q j (λ e f. h (ap suc e) f)
 
--- lengths stay
+-- a number that is put in leaves the parts as long as they were
 pub put-sized : (f : Field) (n : ℕ) (m : Nest) (D : ℕ) → Holds (rangeOf D f) n → Sized m → Sized (put f n m)
 put-sized f n m D h s p =
     ap (λ l. length (getD l p [])) (put-parts f n m D h) ∙ in-length (partsOf m) (partNumber f) (indexOf f) n p ∙ s p
 
--- the number that was put in
+-- the number in a field is the one that was put in
 pub number-put : (f : Field) (n : ℕ) (m : Nest) (D : ℕ) → Holds (rangeOf D f) n → Sized m → HasPlace f → numberIn f (put f n m) ≡ n
 number-put f n m D h s u =
     let l : indexOf f < length (getD (partsOf m) (partNumber f) []) = omega (arith, s (partNumber f)) in
@@ -182,7 +182,7 @@ number-put f n m D h s u =
     ∙ ap (λ l. getD (getD l (partNumber f) []) (indexOf f) 0) (put-parts f n m D h)
     ∙ in-same (partsOf m) (partNumber f) (indexOf f) n l
 
--- any other number
+-- a number that is put in leaves every other as it was
 pub number-kept : (f g : Field) (n : ℕ) (m : Nest) (D : ℕ) → Holds (rangeOf D f) n → (place f ≡ place g → ⊥) → numberIn g (put f n m) ≡ numberIn g m
 number-kept f g n m D h u =
     sym (number-there g (put f n m))
