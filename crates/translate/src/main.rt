@@ -37,7 +37,7 @@ fn write_sheet(nest: &[u8]) {
     let Translated::Sheet(behind) = answer else {
         return;
     };
-    io::write_all(1, &room[..behind]);
+    say(&room[..behind]);
 }
 
 fn main() {

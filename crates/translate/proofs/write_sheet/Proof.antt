@@ -52,13 +52,13 @@ array-share-prefix-room c =
     let n : length (c .before .before .before .before .translate .last .1 .0) ≡ 1024 = search needs in
     omega (arith, small (c .before))
 
-slice-aggregate-write-all : tie.Need-slice-aggregate-write-all
-slice-aggregate-write-all c =
+slice-aggregate-say : tie.Need-slice-aggregate-say
+slice-aggregate-say c =
     let n : length (c .before .before .before .before .before .translate .last .1 .0) ≡ 1024 = search needs in
     sym (length-take-le _ (c .before .before .before .before .before .translate .last .1 .0) (omega (arith, small (c .before .before))))
 
-write-all-requires : tie.Need-write-all-requires
-write-all-requires c κs = search needs
+say-requires : tie.Need-say-requires
+say-requires c κs = search needs
 
 returns-2 : tie.Need-returns-2
 returns-2 c = search needs
@@ -73,6 +73,6 @@ write-sheet-spec =
     enum-told
     returns
     array-share-prefix-room
-    slice-aggregate-write-all
-    write-all-requires
+    slice-aggregate-say
+    say-requires
     returns-2)
