@@ -1,4 +1,4 @@
--- One byte more, stored or loaded.
+-- One byte more, stored or loaded; bytes stored in two parts.
 use Prim.Native.Nat.{ℕ, zero, suc, _+_, _-_, _*_, _/_, _%_, _^_, _≤_, _<_}
 use mathlib.Core.Path.{_≡_, sym, _∙_, ap}
 use mathlib.Core.List.{List, [], _∷_, _++_}

@@ -13,7 +13,7 @@ mod Lasts
 mod Moves
 mod Lengths
 mod Cuts
-mod ByteSteps
+pub mod ByteSteps
 mod PlaceSteps
 mod LaneSteps
 mod StretchSteps

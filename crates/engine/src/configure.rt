@@ -360,7 +360,7 @@ pub(crate) fn apply(o: Operation, r: Register) -> Applied
 }
 
 // The register that an operation names.
-pub(crate) fn register_of(o: Operation) -> usize
+pub fn register_of(o: Operation) -> usize
     ensures { λ q. ⌜ q ≡ registerOf o ⌝ }
 {
     match o {

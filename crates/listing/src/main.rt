@@ -4,8 +4,8 @@ use engine::run::Verdict;
 use engine::run::set_up;
 use words::argument::asks_for_help;
 use words::argument::complain;
-use words::file::Stop;
 use words::file::Taken;
+use words::file::is_whole;
 use words::file::read_argument;
 use words::file::read_input;
 use words::file::write_output;
@@ -29,15 +29,15 @@ can refuse, for its memory or its vector length, the program `run` tells.
     );
 }
 
-fn usage() {
-    complain(b"usage: listing [SHEET]\n");
-}
+// How the program is used.
+const USAGE: [u8; 23] = *b"usage: listing [SHEET]\n";
 
 // The last place to be listed of a refused sheet: the refusal's; for 16, which is looked at when the body is read, the sheet's end.
 fn last_place(why: Refusal, place: usize, len: usize) -> usize {
     if why.number() == 16 { len } else { place }
 }
 
+// Lists a sheet, and says whether it is accepted.
 fn list(sheet: &[u8]) {
     let settled = set_up(sheet, sheet.len());
     let verdict = settled.verdict;
@@ -75,16 +75,14 @@ fn main() {
     let count = os::arg_count();
     if 2 < count {
         complain(b"listing takes one sheet\n");
-        usage();
+        complain(&USAGE);
         return;
     }
     let mut sheet = [0u8; 65537];
     let taken = read_sheet(count, &mut sheet);
     let n = taken.count;
     let stop = taken.stop;
-    match stop {
-        Stop::Failed => usage(),
-        Stop::Full => complain(b"the sheet has more than 65,536 bytes\n"),
-        Stop::Ended => list(&sheet[..n]),
+    if is_whole(stop, &USAGE) {
+        list(&sheet[..n]);
     }
 }

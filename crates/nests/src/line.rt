@@ -13,7 +13,7 @@ pub struct Line {
     pub bad: bool,
 }
 
-pub fn empty_line() -> Line {
+pub(crate) fn empty_line() -> Line {
     Line {
         marks: 0,
         kind: 0,
@@ -87,7 +87,7 @@ fn with_number(mut line: Line, b: u8, k: usize) -> Line {
 }
 
 // What has been read with one byte more, other than the one that ends the line.
-pub fn with_byte(mut line: Line, b: u8) -> Line {
+pub(crate) fn with_byte(mut line: Line, b: u8) -> Line {
     if b == b';' {
         line.marks = std::num::wrapping_add_u64(line.marks, 1);
         return line;

@@ -19,11 +19,17 @@ struct Numbers {
     scale: u64,
 }
 
+// An amount of bytes.
+struct Bytes(u64);
+
+// A signed amount of elements, as a nest has it: "A signed n is written as 2n if n is 0 or more, else -2n-1."
+struct Elements(u64);
+
 // The places of the elements of a visit.
 struct Places {
-    first: u64,
-    second: u64,
-    destination: u64,
+    first: Bytes,
+    second: Bytes,
+    destination: Bytes,
 }
 
 fn wide(x: u8) -> u64
@@ -133,17 +139,22 @@ fn count_of(all: &[u64; 80], d: usize, index: [u64; 7]) -> u64
     count
 }
 
+// A place moved on by a stride, an index times: here the width is applied.
+fn moved_on(place: Bytes, stride: Elements, index: u64, width: u64) -> Bytes {
+    Bytes(moved(place.0, stride.0, times(index, width)))
+}
+
 // The place of an element: the base that stands at a place among the numbers, and each stride behind it times its index, in elements.
-fn place_of(all: &[u64; 80], at: usize, index: [u64; 7]) -> u64
+fn place_of(all: &[u64; 80], at: usize, index: [u64; 7]) -> Bytes
     requires { ⌜ at ≤ 69 ⌝ }
 {
     let loops = loops_of(all);
     let width = width_of(all);
-    let mut place = all[at];
+    let mut place = Bytes(all[at]);
     let mut d = 0;
     while d < loops {
         let stride = at + 1 + d;
-        place = moved(place, all[stride], times(index[d], width));
+        place = moved_on(place, Elements(all[stride]), index[d], width);
         d += 1;
     }
     place
@@ -161,14 +172,15 @@ fn places_of(all: &[u64; 80], index: [u64; 7]) -> Places {
     }
 }
 
-fn are_inside(p: Places, width: u64, size: u64) -> bool {
+// Whether an element lies inside a memory of so many bytes.
+fn is_inside(place: Bytes, width: u64, size: u64) -> bool {
     if size < width {
         return false;
     }
-    let last = size - width;
-    p.first <= last && p.second <= last && p.destination <= last
+    place.0 <= size - width
 }
 
+// A byte of a memory, 0 behind its end.
 fn byte_at(memory: &[u8], place: u64) -> u64
     ensures { λ r. ⌜ r < 256 ⌝ }
 {
@@ -188,7 +200,7 @@ fn set_byte(memory: &mut [u8], place: u64, value: u64) {
 }
 
 // The number of so many bytes at a place, little-endian.
-fn element(memory: &[u8], place: u64, width: u64) -> u64
+fn element(memory: &[u8], place: Bytes, width: u64) -> u64
     requires { ⌜ width ≤ 8 ⌝ }
 {
     let mut value: u64 = 0;
@@ -196,19 +208,19 @@ fn element(memory: &[u8], place: u64, width: u64) -> u64
     while 0 < left {
         left -= 1;
         value = value % 72057594037927936 * 256
-            + byte_at(memory, std::num::wrapping_add_u64(place, left));
+            + byte_at(memory, std::num::wrapping_add_u64(place.0, left));
     }
     value
 }
 
 // Writes so many low bytes of a number.
-fn set_element(memory: &mut [u8], place: u64, width: u64, value: u64)
+fn set_element(memory: &mut [u8], place: Bytes, width: u64, value: u64)
     requires { ⌜ width ≤ 8 ⌝ }
 {
     let mut rest = value;
     let mut k = 0;
     while k < width {
-        set_byte(memory, std::num::wrapping_add_u64(place, k), rest);
+        set_byte(memory, std::num::wrapping_add_u64(place.0, k), rest);
         rest /= 256;
         k += 1;
     }
@@ -250,12 +262,19 @@ fn operated(operation: u64, a: u64, b: u64, width: u64) -> u64 {
 fn visit(all: &[u64; 80], index: [u64; 7], memory: &mut [u8]) -> bool {
     let width = width_of(all);
     let p = places_of(all, index);
-    if !are_inside(p, width, memory.len() as u64) {
+    let first = p.first;
+    let second = p.second;
+    let destination = p.destination;
+    let size = memory.len() as u64;
+    if !is_inside(first, width, size)
+        || !is_inside(second, width, size)
+        || !is_inside(destination, width, size)
+    {
         return false;
     }
-    let a = element(memory, p.first, width);
-    let b = element(memory, p.second, width);
-    set_element(memory, p.destination, width, operated(all[3], a, b, width));
+    let a = element(memory, first, width);
+    let b = element(memory, second, width);
+    set_element(memory, destination, width, operated(all[3], a, b, width));
     true
 }
 
@@ -298,14 +317,14 @@ fn nested(all: &[u64; 80], d: usize, outer: [u64; 7], memory: &mut [u8], t: Tour
 }
 
 // The plain loop of a nest on a memory, up to a visit from which on nothing is done.
-pub fn plain_loop(nest: &[u8], memory: &mut [u8], stop: u64) -> Tour {
+pub(crate) fn plain_loop(nest: &[u8], memory: &mut [u8], stop: u64) -> Tour {
     let all = numbers_of(nest);
     let t = Tour { visits: 0, stop };
     nested(&all, loops_of(&all), [0u64; 7], memory, t)
 }
 
 // The first visits, so many that they are whole chunks: of as many visits as a vector length has lanes, since the nest is not coupled.
-pub fn whole_chunks(nest: &[u8], vl: u64, visits: u64) -> u64 {
+pub(crate) fn whole_chunks(nest: &[u8], vl: u64, visits: u64) -> u64 {
     let all = numbers_of(nest);
     let lanes = vl / width_of(&all);
     if lanes == 0 {

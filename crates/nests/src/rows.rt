@@ -296,7 +296,7 @@ fn front(s: &[u8], n: usize) -> &[u8] {
 }
 
 // Writes the row of a line, and counts it.
-pub fn row_of(t: Tally, line: Line) -> Tally {
+pub(crate) fn row_of(t: Tally, line: Line) -> Tally {
     let name = line.name;
     let nest = line.nest;
     row(

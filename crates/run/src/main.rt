@@ -5,6 +5,7 @@ use words::argument::asks_for_help;
 use words::argument::complain;
 use words::argument::number_argument;
 use words::file::Stop;
+use words::file::is_whole;
 use words::file::read_argument;
 use words::file::write_argument;
 use words::file::write_output;
@@ -33,13 +34,12 @@ fresh: its state, kind and width, the elements moved, the flags (a set one by it
     );
 }
 
-fn usage() {
-    complain(b"usage: run VECTOR-LENGTH SHEET MEMORY [OUT]\n");
-}
+// How the program is used.
+const USAGE: [u8; 44] = *b"usage: run VECTOR-LENGTH SHEET MEMORY [OUT]\n";
 
 fn wrong_use(what: &[u8]) {
     complain(what);
-    usage();
+    complain(&USAGE);
 }
 
 // Writes the verdict of a sheet; of a refusal its meaning, and the line of what stands at its place. 15 has no place.
@@ -111,7 +111,7 @@ fn on_memory(vl: u64, sheet: &[u8], named: bool) {
     let n = taken.count;
     let stop = taken.stop;
     if stop.failed() {
-        usage();
+        complain(&USAGE);
         return;
     }
     let mut memory = before;
@@ -140,9 +140,7 @@ fn main() {
     let taken = read_argument(2, &mut sheet);
     let n = taken.count;
     let stop = taken.stop;
-    match stop {
-        Stop::Failed => usage(),
-        Stop::Full => complain(b"the sheet has more than 65,536 bytes\n"),
-        Stop::Ended => on_memory(vl, &sheet[..n], count == 5),
+    if is_whole(stop, &USAGE) {
+        on_memory(vl, &sheet[..n], count == 5);
     }
 }

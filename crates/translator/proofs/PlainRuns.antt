@@ -16,7 +16,7 @@ use Rattle.translator.specs.Acceptance.{Accepted}
 use Rattle.translator.specs.Promise3.{AllInside, Promise3}
 use Rattle.translator.specs.PremiseTests.{Ready, RunsPlain}
 use Rattle.translator.specs.Examples.{oneBytes, triangleBytes, threeBytes, three}
-use Rattle.translator.specs.Premises.{one, triangle, inPlaceBytes, inPlace, one-ready, triangle-ready, three-ready, in-place-ready}
+use Rattle.translator.specs.ReadyNests.{one, triangle, inPlaceBytes, inPlace, examples-ready}
 use Rattle.translator.specs.Limits.{wideBytes, wide, millionBytes, million, wide-ready, million-ready}
 use Rattle.translator.specs.declared.nest.Nest.{Nest}
 use Rattle.translator.specs.declared.nest.Stage.the-variants as stage
@@ -60,12 +60,12 @@ pub examples-run :
     × RunsPlain threeBytes three 510
     × RunsPlain inPlaceBytes inPlace 11
 examples-run = (
-  ready-runs _ _ _ one-ready,
-  ready-runs _ _ _ (triangle-ready .0),
-  ready-runs _ _ _ (triangle-ready .1),
-  ready-runs _ _ _ (triangle-ready .2),
-  ready-runs _ _ _ three-ready,
-  ready-runs _ _ _ in-place-ready,
+  ready-runs _ _ _ (examples-ready .0),
+  ready-runs _ _ _ (examples-ready .1),
+  ready-runs _ _ _ (examples-ready .2),
+  ready-runs _ _ _ (examples-ready .3),
+  ready-runs _ _ _ (examples-ready .4),
+  ready-runs _ _ _ (examples-ready .5),
 )
 
 -- a loop of 4,096 and 1,048,576 visits, on every memory of 65,536 bytes

@@ -4,7 +4,7 @@
 --   AccessInRange, InRange, Tidy   a nest's numbers in their ranges; 0 in the places that no loop uses
 --   LowHighKept, Accepted          the rule of 8; an accepted nest
 --   Stand, Fault, AtFault          numbers that stand in the bytes; the first number at fault
---   Breaks, Refuses                a rule broken; the refusals of bytes as a nest
+--   Breaks, Refuses                a rule broken; the refusals of bytes as a nest, by 01's numbers
 --   Nesting                        nestAt gives these and nothing else
 use Prim.Native.Nat.{ℕ, _≤_, _<_}
 use mathlib.Core.Path.{_≡_}
@@ -14,9 +14,9 @@ use lib.ListN.{length, getD}
 use lib.IntN.{pos, natAbs}
 use lib.Signed.{_≤ℤ_}
 use Rattle.codec.specs.NumberLaws.{Stands}
+use Rattle.codec.specs.Refusals.{numberOf}
 use Rattle.codec.specs.Operations.{actionCode}
 use Rattle.codec.specs.declared.refusal.Refusal.{Refusal}
-use Rattle.codec.specs.declared.refusal.Refusal.the-variants.{BadNumber, OutOfRange, TooMany, LowHigh, Product}
 use Rattle.engine.specs.Addresses.{noElements}
 use Rattle.engine.specs.Rules.{product}
 use Rattle.engine.specs.Promise1.{NumberAt, NoNumberAt}
@@ -82,8 +82,8 @@ Stand s (f ∷ fs) at m to n =
 
 -- "1 and 2 number by number .., the place being the first byte of the number": the fault is in this number or in a later one
 pub data Fault (s : List ℕ) (x : Refusal) (at place : ℕ) (r : Range) (Later : ℕ → ℕ → Type 0) : Type 0 where
-  unread : x ≡ BadNumber → at ≡ place → NoNumberAt s place → Fault s x at place r Later
-  beyond : (v to : ℕ) → x ≡ OutOfRange → at ≡ place → NumberAt s place v to → ¬ Holds r v → Fault s x at place r Later
+  unread : numberOf x ≡ 1 → at ≡ place → NoNumberAt s place → Fault s x at place r Later
+  beyond : (v to : ℕ) → numberOf x ≡ 2 → at ≡ place → NumberAt s place v to → ¬ Holds r v → Fault s x at place r Later
   later : (v to : ℕ) → NumberAt s place v to → Holds r v → Later v to → Fault s x at place r Later
 
 -- of the numbers of these fields from a place on, the first at fault is refused with x, its place being `at`
@@ -93,15 +93,15 @@ AtFault s x at (f ∷ fs) place m = Fault s x at place (rangeOf (m .loops) f) (�
 
 -- "then 6, 8, 9"
 pub data Breaks (m : Nest) (x : Refusal) : Type 0 where
-  many : x ≡ TooMany → 8 < nonzeroOf m → Breaks m x
-  low-high : x ≡ LowHigh → nonzeroOf m ≤ 8 → ¬ LowHighKept m → Breaks m x
-  large : x ≡ Product → nonzeroOf m ≤ 8 → LowHighKept m → 1048576 < product (highsOf m) → Breaks m x
+  many : numberOf x ≡ 6 → 8 < nonzeroOf m → Breaks m x
+  low-high : numberOf x ≡ 8 → nonzeroOf m ≤ 8 → ¬ LowHighKept m → Breaks m x
+  large : numberOf x ≡ 9 → nonzeroOf m ≤ 8 → LowHighKept m → 1048576 < product (highsOf m) → Breaks m x
 
 -- the refusals of bytes as a nest: a number at fault, among the first four or behind them; a byte too many; a rule
 pub data Refuses (s : List ℕ) (x : Refusal) (at : ℕ) : Type 0 where
   head : AtFault s x at headFields 0 noNest → Refuses s x at
   rest : (m : Nest) (to : ℕ) → Stand s headFields 0 noNest to m → AtFault s x at (restFields (m .loops)) to m → Refuses s x at
-  trailing : (m : Nest) → InRange m → Tidy m → Stands s 0 (nestBytes m) at → at < length s → x ≡ OutOfRange → Refuses s x at
+  trailing : (m : Nest) → InRange m → Tidy m → Stands s 0 (nestBytes m) at → at < length s → numberOf x ≡ 2 → Refuses s x at
   rule : (m : Nest) → InRange m → Tidy m → s ≡ nestBytes m → Breaks m x → at ≡ 0 → Refuses s x at
 
 -- ---- nothing else

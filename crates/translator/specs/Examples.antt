@@ -1,6 +1,8 @@
 -- Nests and their sheets, computed from the definitions.
 --
 --   oneBytes, threeBytes, three, triangleBytes   nests as bytes, and the numbers of one
+--   theNest, nestIn                   the nest that was read; the nest that bytes are
+--   sheetFor, translateAnswerFor      what translating writes, and what it answers
 --   sheets                            01's nest and its 42 bytes, 17
 --   threeLoops                        three loops with three terms: read, written, its visits, places, highs, modifiers, operations
 --   chunks                            a triangle, coupled or not, and its chunks
@@ -32,7 +34,7 @@ use Rattle.engine.specs.ShapeCheck.{some, checkShape}
 use Rattle.engine.specs.Given.{patternOf, ended, givenFrom, givenFor}
 use Rattle.engine.specs.declared.check.Why.the-variants.{Nothing}
 use Rattle.engine.specs.declared.stream.Modifier.{Modifier}
-use Rattle.translator.specs.Fields.{termFields, loopFields, strideFields}
+use Rattle.translator.specs.Fields.{termFields, loopFields, strideFields, noNest}
 use Rattle.translator.specs.Nests.{termsAt, countAt, visits, placeUpTo, placeOf, visitGroups}
 use Rattle.translator.specs.NestRules.{nonzeroFor, nonzeroFrom, total, highsFrom, lowOrHighFrom, highsOf}
 use Rattle.translator.specs.Reading.{Nested, nest, refused, nestAt, numbersBytes, nestBytes}
@@ -85,13 +87,25 @@ three = record {
   };
 }
 
--- what a nest's bytes are translated to, in a room of n bytes
+-- the nest that was read; one with no number if it is refused
+abbrev pub theNest : Nested → Nest
+theNest (nest m) = m
+theNest (refused x at) = noNest
+
+-- the nest that bytes are; to unfold it is to unfold all that reading a nest computes with
+unfoldable pub nestIn : List ℕ → Nest
+unfolding numberAt groupsAt signedOf termFields loopFields strideFields Reading.readFrom nestAt
+    nonzeroFor nonzeroFrom total highsFrom lowOrHighFrom product firstOf
+nestIn s = theNest (nestAt s)
+
+-- what a nest's bytes are translated to, in a room of n bytes; to unfold it is to unfold all that translating computes with
 unfoldable pub sheetFor : List ℕ → ℕ → List ℕ
+unfolding nestIn groupsOf wordOf operationBytes calculationBytes modifiersAt modifiersFrom dimensionOps bytesOfAll sheetOf
 sheetFor s n = roomAfter (nestAt s) (replicate n 0)
 
 -- what translating a nest's bytes answers, for a room of n bytes
-unfoldable pub answerFor : List ℕ → ℕ → Answered
-answerFor s n = asTranslated (translated (nestAt s) n)
+unfoldable pub translateAnswerFor : List ℕ → ℕ → Answered
+translateAnswerFor s n = asTranslated (translated (nestAt s) n)
 
 -- ---- sheets
 
@@ -101,13 +115,11 @@ pub sheets :
     ≡ 0x01 ∷ 0x8b ∷ 0x81 ∷ 0x01 ∷ 0x00 ∷ 0x02 ∷ 0x01 ∷ 0x00 ∷ 0x03 ∷ 0x02 ∷ 0x04 ∷ 0x01 ∷ 0x01 ∷ 0x8b ∷ 0x82 ∷ 0x01 ∷ 0x08 ∷ 0x02
     ∷ 0x02 ∷ 0x00 ∷ 0x03 ∷ 0x02 ∷ 0x04 ∷ 0x02 ∷ 0x01 ∷ 0x8b ∷ 0x03 ∷ 0x10 ∷ 0x02 ∷ 0x03 ∷ 0x00 ∷ 0x03 ∷ 0x02 ∷ 0x04 ∷ 0x03 ∷ 0x05
     ∷ 0x01 ∷ 0x01 ∷ 0x01 ∷ 0x03 ∷ 0x01 ∷ 0x02 ∷ [])
-    × (answerFor oneBytes 42 ≡ sheet 42)
-    × (answerFor oneBytes 41 ≡ refusal 17 0 0 0)
+    × (translateAnswerFor oneBytes 42 ≡ sheet 42)
+    × (translateAnswerFor oneBytes 41 ≡ refusal 17 0 0 0)
     × (sheetFor oneBytes 41 ≡ replicate 41 0)
     × (sheetFor oneBytes 50 ≡ sheetFor oneBytes 42 ++ replicate 8 0)
-unfolding numberAt groupsAt signedOf groupsOf wordOf operationBytes calculationBytes
-    termFields loopFields strideFields Reading.readFrom nestAt nonzeroFor nonzeroFrom total highsFrom lowOrHighFrom product firstOf
-    modifiersAt modifiersFrom dimensionOps bytesOfAll sheetOf oneBytes sheetFor answerFor
+unfolding sheetFor translateAnswerFor oneBytes
 sheets = (refl, refl, refl, refl, refl)
 
 -- ---- three loops
@@ -173,9 +185,8 @@ pub threeLoops :
     ∷ modifier 3 1 behaviour.Add 2
     ∷ op.End 3
     ∷ [])
-unfolding numberAt groupsAt signedOf groupsOf termFields loopFields strideFields Reading.readFrom nestAt numbersBytes nestBytes
-    nonzeroFor nonzeroFrom total highsFrom lowOrHighFrom product firstOf
-    termsAt countAt span loops visits placeUpTo modifiersAt modifiersFrom dimensionOps sized dimension modifier threeBytes three
+unfolding nestIn groupsOf numbersBytes nestBytes termsAt countAt span loops visits placeUpTo modifiersAt modifiersFrom dimensionOps
+    sized dimension modifier threeBytes three
 threeLoops = (refl, refl, refl, refl, refl, refl, refl, refl, refl)
 
 -- ---- chunks
@@ -219,9 +230,7 @@ pub chunks :
     × (chunksFor (nestAt (triangleBytes 1)) 8 5 ≡ 1 ∷ 2 ∷ 3 ∷ 4 ∷ 0 ∷ [])
     × (chunksFor (nestAt (triangleBytes 2)) 8 3 ≡ 8 ∷ 2 ∷ 0 ∷ [])
     × (chunksFor (nest three) 4 5 ≡ 2 ∷ 4 ∷ 2 ∷ 0 ∷ 0 ∷ [])
-unfolding numberAt groupsAt signedOf termFields loopFields strideFields Reading.readFrom nestAt
-    nonzeroFor nonzeroFrom total highsFrom lowOrHighFrom product firstOf
-    termsAt countAt span loops visits passes withElements groups leftAfter chunkOf
+unfolding nestIn termsAt countAt span loops visits passes withElements groups leftAfter chunkOf
     triangleBytes three chunkLengths chunksFor visitsFor
 chunks = (refl, refl, refl, refl, refl)
 

@@ -5,14 +5,14 @@
 --   all-terms, all-strides, all-loops    of terms, strides and loops: exactly if it holds of each by its indices
 --   OfLoop, OfAccess, EachField, all-rest                  of all numbers behind the first four
 use Prim.Native.Nat.{ℕ, zero, suc, _+_, _≤_, _<_}
-use mathlib.Core.Path.{_≡_, subst}
+use mathlib.Core.Path.{_≡_, refl, subst}
 use mathlib.Core.Logic.{_↔_}
 use mathlib.Core.List.{List, [], _∷_, _++_}
 use native.Mathlib.Omega.{arith}
 use native.Mathlib.Decide.{decLt}
 use Rattle.translator.specs.Fields.{Role, first, second, destination, Field, count, term, base, stride, termFields, loopFields, strideFields, accessFields, restFields}
 
--- of one index and of those behind it
+-- what holds of index o and of the n behind it holds of each index from o on, as many and one more
 each-next : (Q : ℕ → Type 0) (o n : ℕ) → Q o → ((k : ℕ) → suc o ≤ k → k < suc o + n → Q k) → (k : ℕ) → o ≤ k → k < o + suc n → Q k
 each-next Q o n here rest k l u = go (decLt o k)
   where
@@ -21,53 +21,56 @@ each-next Q o n here rest k l u = go (decLt o k)
     go (no q) = let e : o ≡ k = omega arith in subst Q e here
 
 module _ (P : Field → Type 0) where
-  -- it holds of each
+  -- P holds of each field of a list
   unfoldable pub All : List Field → Type 0
   All [] = Unit {0}
   All (f ∷ fs) = P f × All fs
 
-  -- of two lists joined
+  -- what holds of each field of two lists holds of each field of both joined
   pub all-append : (xs ys : List Field) → All xs → All ys → All (xs ++ ys)
   unfolding All
   all-append [] ys h k = k
   all-append (x ∷ xs) ys h k = (h .0, all-append xs ys (h .1) k)
 
-  -- of the first of two lists
+  -- what holds of each field of two lists joined holds of each of the first
   pub all-front : (xs ys : List Field) → All (xs ++ ys) → All xs
   unfolding All
   all-front [] ys h = tt
   all-front (x ∷ xs) ys h = (h .0, all-front xs ys (h .1))
 
-  -- of the second
+  -- what holds of each field of two lists joined holds of each of the second
   pub all-back : (xs ys : List Field) → All (xs ++ ys) → All ys
   unfolding All
   all-back [] ys h = h
   all-back (x ∷ xs) ys h = all-back xs ys (h .1)
 
-  -- the terms of loop t for n loops from o on
+  -- P holds of n fields of a family, one after the other from index o on, exactly if it holds of each by its index
+  all-from : (g : ℕ → Field) (fields : ℕ → ℕ → List Field) → ((o : ℕ) → fields o 0 ≡ []) → ((o n : ℕ) → fields o (suc n) ≡ g o ∷ fields (suc o) n)
+      → (o n : ℕ) → All (fields o n) ↔ ((k : ℕ) → o ≤ k → k < o + n → P (g k))
+  unfolding All
+  all-from g fields none more o zero = rw (none o) (λ h k l u. absurd (omega arith), λ h. tt)
+  all-from g fields none more o (suc n) =
+      rw (more o n) (
+        λ h. each-next (λ k. P (g k)) o n (h .0) (all-from g fields none more (suc o) n .0 (h .1)),
+        λ h. (h o (omega arith) (omega arith), all-from g fields none more (suc o) n .1 (λ k l u. h k (omega arith) (omega arith))),
+      )
+
+  -- P holds of the terms of loop t for n loops from o on exactly if it holds of each by its loop
   pub all-terms : (t o n : ℕ) → All (termFields t o n) ↔ ((k : ℕ) → o ≤ k → k < o + n → P (term t k))
-  unfolding All termFields
-  all-terms t o zero = (λ h k l u. absurd (omega arith), λ h. tt)
-  all-terms t o (suc n) = (
-    λ h. each-next (λ k. P (term t k)) o n (h .0) (all-terms t (suc o) n .0 (h .1)),
-    λ h. (h o (omega arith) (omega arith), all-terms t (suc o) n .1 (λ k l u. h k (omega arith) (omega arith))),
-  )
+  unfolding termFields
+  all-terms t = all-from (term t) (termFields t) (λ o. refl) (λ o n. refl)
 
-  -- n strides from loop d on
+  -- P holds of the strides of an access for n loops from d on exactly if it holds of each by its loop
   pub all-strides : (a : Role) (d n : ℕ) → All (strideFields a d n) ↔ ((k : ℕ) → d ≤ k → k < d + n → P (stride a k))
-  unfolding All strideFields
-  all-strides a d zero = (λ h k l u. absurd (omega arith), λ h. tt)
-  all-strides a d (suc n) = (
-    λ h. each-next (λ k. P (stride a k)) d n (h .0) (all-strides a (suc d) n .0 (h .1)),
-    λ h. (h d (omega arith) (omega arith), all-strides a (suc d) n .1 (λ k l u. h k (omega arith) (omega arith))),
-  )
+  unfolding strideFields
+  all-strides a = all-from (stride a) (strideFields a) (λ d. refl) (λ d n. refl)
 
-  -- of a loop: its count, and its terms for the loops outside it, below e
+  -- P holds of the numbers of loop t: its count, and its terms for the loops outside it, below e
   pub record OfLoop (e t : ℕ) : Type 0 where
     pub count : P (count t)
     pub terms : (o : ℕ) → t < o → o < e → P (term t o)
 
-  -- n loops from t on, up to loop e
+  -- P holds of the numbers of n loops from t on, up to loop e, exactly if it holds of each loop's
   pub all-loops : (t n e : ℕ) → t + n ≡ e → All (loopFields t n) ↔ ((k : ℕ) → t ≤ k → k < e → OfLoop e k)
   unfolding All loopFields
   all-loops t zero e q = (λ h k l u. absurd (omega arith), λ h. tt)
@@ -84,12 +87,12 @@ module _ (P : Field → Type 0) where
         (all-loops (suc t) n e (omega arith) .1 (λ k l u. h k (omega arith) u)),
   )
 
-  -- of an access of D loops: its base and its strides
+  -- P holds of the numbers of an access of D loops: its base and its strides
   pub record OfAccess (D : ℕ) (a : Role) : Type 0 where
     pub base : P (base a)
     pub strides : (d : ℕ) → d < D → P (stride a d)
 
-  -- an access
+  -- P holds of the fields of an access exactly if it holds of its base and its strides
   pub all-access : (D : ℕ) (a : Role) → All (accessFields a D) ↔ OfAccess D a
   unfolding All
   all-access D a = (
@@ -97,12 +100,12 @@ module _ (P : Field → Type 0) where
     λ h. (h .base, all-strides a 0 D .1 (λ k l u. h .strides k (omega arith))),
   )
 
-  -- of the loops, and of every access
+  -- P holds of the numbers of all D loops, and of those of every access
   pub record EachField (D : ℕ) : Type 0 where
     pub loops : (t : ℕ) → t < D → OfLoop D t
     pub accesses : (a : Role) → OfAccess D a
 
-  -- all numbers behind the first four
+  -- P holds of all numbers behind the first four exactly if it holds of the loops' and the accesses'
   pub all-rest : (D : ℕ) → All (restFields D) ↔ EachField D
   all-rest D = (there, back)
     where

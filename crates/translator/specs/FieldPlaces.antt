@@ -1,7 +1,7 @@
 -- The numbers of a nest stand at different places.
 --
---   Fresh, Apart                 no field of a list at a place; no two of them at one place
---   fields-apart, fields-fit     the fields of a nest stand apart, and each has a place
+--   Fresh, Distinct              no field of a list at a place; no two of them at one place
+--   fields-distinct, fields-placed   the fields of a nest stand at different places, and each has a place
 --   count-fresh, term-fresh, stride-fresh, loops-fresh   places at which none of them stands
 use Prim.Native.Nat.{ℕ, zero, suc, _+_, _*_, _≤_, _<_}
 use mathlib.Core.Path.{_≡_, refl}
@@ -11,64 +11,64 @@ use native.Mathlib.Omega.{arith}
 use lib.ListN.{getD}
 use Rattle.translator.specs.Fields.{Role, first, second, destination, Field, loops, coupled, operation, count, term, base, stride, headFields, termFields, loopFields, strideFields, accessFields, restFields, fieldsOf}
 use Rattle.translator.specs.FieldLists.{All, all-append, all-terms, all-strides, all-loops, all-access, all-rest}
-use Rattle.translator.specs.PlaceLaws.{accessPart, place, sizes, Fits}
+use Rattle.translator.specs.PlaceLaws.{accessPart, place, sizes, HasPlace}
 
--- none of them stands at place k
+-- no field of a list stands at place k
 abbrev pub Fresh : ℕ → List Field → Type 0
 Fresh k fs = All (λ f. place f ≡ k → ⊥) fs
 
--- no two stand at one place
-unfoldable pub Apart : List Field → Type 0
-Apart [] = Unit {0}
-Apart (f ∷ fs) = Fresh (place f) fs × Apart fs
+-- no two fields of a list stand at one place
+unfoldable pub Distinct : List Field → Type 0
+Distinct [] = Unit {0}
+Distinct (f ∷ fs) = Fresh (place f) fs × Distinct fs
 
--- what follows holds of each too
+-- what follows from what holds of each field of a list holds of each too
 all-map : (P Q : Field → Type 0) → ((f : Field) → P f → Q f) → (fs : List Field) → All P fs → All Q fs
 unfolding All
 all-map P Q h [] k = tt
 all-map P Q h (f ∷ fs) k = (h f (k .0), all-map P Q h fs (k .1))
 
--- two lists joined
-apart-append : (xs ys : List Field) → Apart xs → Apart ys → All (λ f. Fresh (place f) ys) xs → Apart (xs ++ ys)
-unfolding All Apart
-apart-append [] ys a b h = b
-apart-append (x ∷ xs) ys a b h = (all-append (λ f. place f ≡ place x → ⊥) xs ys (a .0) (h .0), apart-append xs ys (a .1) b (h .1))
+-- two lists joined are distinct if both are, and no place of the first is one of the second
+distinct-append : (xs ys : List Field) → Distinct xs → Distinct ys → All (λ f. Fresh (place f) ys) xs → Distinct (xs ++ ys)
+unfolding All Distinct
+distinct-append [] ys a b h = b
+distinct-append (x ∷ xs) ys a b h = (all-append (λ f. place f ≡ place x → ⊥) xs ys (a .0) (h .0), distinct-append xs ys (a .1) b (h .1))
 
--- one list's places below a number, the other's from it on
-apart-join : (k : ℕ) (xs ys : List Field) → Apart xs → Apart ys → All (λ f. place f < k) xs → All (λ f. k ≤ place f) ys → Apart (xs ++ ys)
-apart-join k xs ys a b h l =
-    apart-append xs ys a b
+-- two lists joined are distinct if both are, the places of the first below a number and those of the second from it on
+distinct-join : (k : ℕ) (xs ys : List Field) → Distinct xs → Distinct ys → All (λ f. place f < k) xs → All (λ f. k ≤ place f) ys → Distinct (xs ++ ys)
+distinct-join k xs ys a b h l =
+    distinct-append xs ys a b
     (all-map (λ f. place f < k) (λ f. Fresh (place f) ys)
     (λ f u. all-map (λ g. k ≤ place g) (λ g. place g ≡ place f → ⊥) (λ g v e. omega arith) ys l) xs h)
 
 -- ---- the fields of a nest
 
--- the terms of a loop
-terms-apart : (t o n : ℕ) → Apart (termFields t o n)
-unfolding All Apart termFields
-terms-apart t o zero = tt
-terms-apart t o (suc n) = (all-terms (λ f. place f ≡ place (term t o) → ⊥) t (suc o) n .1 (λ k l u e. omega arith), terms-apart t (suc o) n)
+-- the terms of a loop stand at different places
+terms-distinct : (t o n : ℕ) → Distinct (termFields t o n)
+unfolding All Distinct termFields
+terms-distinct t o zero = tt
+terms-distinct t o (suc n) = (all-terms (λ f. place f ≡ place (term t o) → ⊥) t (suc o) n .1 (λ k l u e. omega arith), terms-distinct t (suc o) n)
 
--- strides
-strides-apart : (a : Role) (d n : ℕ) → Apart (strideFields a d n)
-unfolding All Apart strideFields
-strides-apart a d zero = tt
-strides-apart a d (suc n) =
-    (all-strides (λ f. place f ≡ place (stride a d) → ⊥) a (suc d) n .1 (λ k l u e. omega arith), strides-apart a (suc d) n)
+-- the strides of an access stand at different places
+strides-distinct : (a : Role) (d n : ℕ) → Distinct (strideFields a d n)
+unfolding All Distinct strideFields
+strides-distinct a d zero = tt
+strides-distinct a d (suc n) =
+    (all-strides (λ f. place f ≡ place (stride a d) → ⊥) a (suc d) n .1 (λ k l u e. omega arith), strides-distinct a (suc d) n)
 
--- an access
-access-apart : (a : Role) (D : ℕ) → Apart (accessFields a D)
-unfolding All Apart
-access-apart a D = (all-strides (λ f. place f ≡ place (base a) → ⊥) a 0 D .1 (λ k l u e. omega arith), strides-apart a 0 D)
+-- the numbers of an access stand at different places
+access-distinct : (a : Role) (D : ℕ) → Distinct (accessFields a D)
+unfolding All Distinct
+access-distinct a D = (all-strides (λ f. place f ≡ place (base a) → ⊥) a 0 D .1 (λ k l u e. omega arith), strides-distinct a 0 D)
 
--- loops
-loops-apart : (t n : ℕ) → t + n ≤ 7 → Apart (loopFields t n)
-unfolding All Apart loopFields
-loops-apart t zero h = tt
-loops-apart t (suc n) h =
-    apart-append (count t ∷ termFields t (suc t) n) (loopFields (suc t) n)
-    (all-terms (λ f. place f ≡ place (count t) → ⊥) t (suc t) n .1 (λ k l u e. omega arith), terms-apart t (suc t) n)
-    (loops-apart (suc t) n (omega arith)) (
+-- the numbers of the loops stand at different places
+loops-distinct : (t n : ℕ) → t + n ≤ 7 → Distinct (loopFields t n)
+unfolding All Distinct loopFields
+loops-distinct t zero h = tt
+loops-distinct t (suc n) h =
+    distinct-append (count t ∷ termFields t (suc t) n) (loopFields (suc t) n)
+    (all-terms (λ f. place f ≡ place (count t) → ⊥) t (suc t) n .1 (λ k l u e. omega arith), terms-distinct t (suc t) n)
+    (loops-distinct (suc t) n (omega arith)) (
       others (count t) (λ k l u e. omega arith) (λ k o l v u e. omega arith),
       all-terms (λ f. Fresh (place f) (loopFields (suc t) n)) t (suc t) n .1
           (λ o l u. others (term t o) (λ k v w e. omega arith) (λ k p v w x e. omega arith)),
@@ -97,12 +97,12 @@ access-places : (P : ℕ → Type 0) (a : Role) (D : ℕ) → ((i : ℕ) → i �
 access-places P a D k =
     all-access (λ f. P (place f)) D a .1 (record { base = k 0 (omega arith); strides = λ d u. k (suc d) (omega arith) })
 
--- all three accesses
-accesses-apart : (D : ℕ) → D ≤ 7 → Apart (accessFields first D ++ (accessFields second D ++ accessFields destination D))
-accesses-apart D h =
-    apart-join 256 (accessFields first D) (accessFields second D ++ accessFields destination D)
-    (access-apart first D)
-    (apart-join 320 (accessFields second D) (accessFields destination D) (access-apart second D) (access-apart destination D)
+-- the numbers of all three accesses stand at different places
+accesses-distinct : (D : ℕ) → D ≤ 7 → Distinct (accessFields first D ++ (accessFields second D ++ accessFields destination D))
+accesses-distinct D h =
+    distinct-join 256 (accessFields first D) (accessFields second D ++ accessFields destination D)
+    (access-distinct first D)
+    (distinct-join 320 (accessFields second D) (accessFields destination D) (access-distinct second D) (access-distinct destination D)
     (access-places (λ k. k < 320) second D (λ i u. omega arith))
     (access-places (λ k. 320 ≤ k) destination D (λ i u. omega arith)))
     (access-places (λ k. k < 256) first D (λ i u. omega arith))
@@ -110,11 +110,11 @@ accesses-apart D h =
     (access-places (λ k. 256 ≤ k) second D (λ i u. omega arith))
     (access-places (λ k. 256 ≤ k) destination D (λ i u. omega arith)))
 
--- all behind the first four
-rest-apart : (D : ℕ) → D ≤ 7 → Apart (restFields D)
-rest-apart D h =
-    apart-join 192 (loopFields 0 D) (accessFields first D ++ (accessFields second D ++ accessFields destination D))
-    (loops-apart 0 D (omega arith)) (accesses-apart D h)
+-- the numbers behind the first four stand at different places
+rest-distinct : (D : ℕ) → D ≤ 7 → Distinct (restFields D)
+rest-distinct D h =
+    distinct-join 192 (loopFields 0 D) (accessFields first D ++ (accessFields second D ++ accessFields destination D))
+    (loops-distinct 0 D (omega arith)) (accesses-distinct D h)
     (all-loops (λ f. place f < 192) 0 D D (omega arith) .1 (λ t l u. record { count = omega arith; terms = λ o v w. omega arith }))
     (all-append (λ f. 192 ≤ place f) (accessFields first D) (accessFields second D ++ accessFields destination D)
     (access-places (λ k. 192 ≤ k) first D (λ i u. omega arith))
@@ -133,13 +133,13 @@ rest-places P D c t a =
     })
 
 -- no two numbers of a nest stand at one place
-pub fields-apart : (D : ℕ) → D ≤ 7 → Apart (fieldsOf D)
-unfolding All Apart
-fields-apart D h =
-    apart-join 4 headFields (restFields D) head (rest-apart D h) low
+pub fields-distinct : (D : ℕ) → D ≤ 7 → Distinct (fieldsOf D)
+unfolding All Distinct
+fields-distinct D h =
+    distinct-join 4 headFields (restFields D) head (rest-distinct D h) low
     (rest-places (λ k. 4 ≤ k) D (λ t u. omega arith) (λ t o u v. omega arith) (λ a i u. omega (arith, part-least a)))
   where
-    head : Apart headFields
+    head : Distinct headFields
     head = (
       (λ e. omega arith, (λ e. omega arith, (λ e. omega arith, tt))),
       ((λ e. omega arith, (λ e. omega arith, tt)), ((λ e. omega arith, tt), (tt, tt))),
@@ -154,14 +154,14 @@ access-fits first i h = h
 access-fits second i h = h
 access-fits destination i h = h
 
--- each has a place
-pub fields-fit : (D : ℕ) → D ≤ 7 → All Fits (fieldsOf D)
+-- every number of a nest has a place
+pub fields-placed : (D : ℕ) → D ≤ 7 → All HasPlace (fieldsOf D)
 unfolding All
-fields-fit D h = (omega arith, (omega arith, (omega arith, (omega arith, rest))))
+fields-placed D h = (omega arith, (omega arith, (omega arith, (omega arith, rest))))
   where
-    rest : All Fits (restFields D)
+    rest : All HasPlace (restFields D)
     rest =
-        all-rest Fits D .1
+        all-rest HasPlace D .1
         (record {
           loops = λ t u. record { count = omega arith; terms = λ o v w. omega arith };
           accesses = λ a. record { base = access-fits a 0 (omega arith); strides = λ d u. access-fits a (suc d) (omega arith) };
@@ -178,13 +178,13 @@ head-fresh k h = (λ e. omega arith, (λ e. omega arith, (λ e. omega arith, (λ
 fields-fresh : (D k : ℕ) → 4 ≤ k → Fresh k (restFields D) → Fresh k (fieldsOf D)
 fields-fresh D k h r = all-append (λ f. place f ≡ k → ⊥) headFields (restFields D) (head-fresh k h) r
 
--- the count of a loop that is not there
+-- no field stands at the place of the count of a loop that is not there
 pub count-fresh : (D t : ℕ) → D ≤ t → t < 7 → Fresh (place (count t)) (fieldsOf D)
 count-fresh D t h l =
     fields-fresh D (place (count t)) (omega arith)
     (rest-places (λ k. k ≡ place (count t) → ⊥) D (λ k u e. omega arith) (λ k o u v e. omega arith) (λ a i u e. omega (arith, part-least a)))
 
--- a term for a loop that is not outside, or not there
+-- no field stands at the place of a term for a loop that is not outside, or not there
 pub term-fresh : (D t o : ℕ) → D ≤ 7 → t < 7 → o < 7 → (o ≤ t) ⊎ (D ≤ o) → Fresh (place (term t o)) (fieldsOf D)
 term-fresh D t o h k l q =
     fields-fresh D (place (term t o)) (omega arith)
@@ -194,7 +194,7 @@ term-fresh D t o h k l q =
     other (inl x) i p u v e = omega arith
     other (inr x) i p u v e = omega arith
 
--- the stride for a loop that is not there
+-- no field stands at the place of the stride for a loop that is not there
 pub stride-fresh : (a : Role) (D d : ℕ) → D ≤ d → d < 7 → Fresh (place (stride a d)) (fieldsOf D)
 stride-fresh a D d h l =
     fields-fresh D (place (stride a d)) (omega (arith, part-least a))

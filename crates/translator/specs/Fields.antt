@@ -5,7 +5,9 @@
 --   Range, rangeOf            the range of each
 --   holds, Holds              a number in its range, as a test and in plain terms
 --   accessOf, termOf          an access and a term of a nest
---   noNest, put, numberIn     no number yet; one number put in; the number that is in
+--   noNest                    a nest with no number yet
+--   withAccess, withBase, withStride, withTerm   an access, a base, a stride, a term put in
+--   put, numberIn             a number put into its field; the number in a field
 --
 -- Loops are counted from 0 here, innermost first.
 use Prim.Native.Nat.{ℕ, zero, suc, _+_, _*_, _≤_}
@@ -56,7 +58,7 @@ unfoldable pub loopFields : ℕ → ℕ → List Field
 loopFields t zero = []
 loopFields t (suc n) = (count t ∷ termFields t (suc t) n) ++ loopFields (suc t) n
 
--- n strides from loop d on
+-- the strides of an access for n loops from d on
 unfoldable pub strideFields : Role → ℕ → ℕ → List Field
 strideFields a d zero = []
 strideFields a d (suc n) = stride a d ∷ strideFields a (suc d) n
@@ -97,7 +99,7 @@ abbrev pub holds : Range → ℕ → Bool
 holds (between least most) n = leb least n && leb n most
 holds reach n = isReach (signedOf n)
 
--- in plain terms
+-- a number in its range, in plain terms
 abbrev pub Holds : Range → ℕ → Type 0
 Holds (between least most) n = (least ≤ n) × (n ≤ most)
 Holds reach n = natAbs (signedOf n) ≤ 1048576
@@ -155,7 +157,12 @@ withBase n a = record { base = record { 0 = pos n }; strides = a .strides }
 abbrev pub withStride : ℕ → ℤ → Access → Access
 withStride d z a = record { base = a .base; strides = set (a .strides) d (record { 0 = z }) }
 
--- the nest with number n put in
+-- the nest with term z of loop t for loop o put in
+abbrev pub withTerm : ℕ → ℕ → ℤ → Nest → Nest
+withTerm t o z m =
+    nestOf (m .width) (m .loops) (m .coupled) (m .action) (m .counts) (set (m .terms) (termPlace t o) z) (m .first) (m .second) (m .destination)
+
+-- the nest with number n put into a field
 abbrev pub put : Field → ℕ → Nest → Nest
 put width n m = nestOf (widthCoded n) (m .loops) (m .coupled) (m .action) (m .counts) (m .terms) (m .first) (m .second) (m .destination)
 put loops n m = nestOf (m .width) n (m .coupled) (m .action) (m .counts) (m .terms) (m .first) (m .second) (m .destination)
@@ -163,12 +170,11 @@ put coupled n m = nestOf (m .width) (m .loops) n (m .action) (m .counts) (m .ter
 put operation n m = nestOf (m .width) (m .loops) (m .coupled) (actionCoded n) (m .counts) (m .terms) (m .first) (m .second) (m .destination)
 put (count t) n m =
     nestOf (m .width) (m .loops) (m .coupled) (m .action) (set (m .counts) t n) (m .terms) (m .first) (m .second) (m .destination)
-put (term t o) n m =
-    nestOf (m .width) (m .loops) (m .coupled) (m .action) (m .counts) (set (m .terms) (termPlace t o) (signedOf n)) (m .first) (m .second) (m .destination)
+put (term t o) n m = withTerm t o (signedOf n) m
 put (base a) n m = withAccess a (withBase n (accessOf a m)) m
 put (stride a d) n m = withAccess a (withStride d (signedOf n) (accessOf a m)) m
 
--- the number that is in
+-- the number in a field of a nest, as it is written
 abbrev pub numberIn : Field → Nest → ℕ
 numberIn width m = widthCode (m .width)
 numberIn loops m = m .loops

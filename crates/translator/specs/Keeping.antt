@@ -15,23 +15,23 @@ use Rattle.translator.specs.NestSheets.{modifiersOf}
 use Rattle.translator.specs.declared.nest.Nest.{Nest}
 use Rattle.translator.specs.declared.rules.Kept.{Kept}
 
--- none
+-- no modifier kept
 abbrev pub noneKept : Kept
 noneKept = record { count = 0; modifiers = replicate 8 noModifier }
 
--- one more; behind the eighth only the count shows that there are more
+-- one modifier more kept; behind the eighth only the count shows that there are more
 abbrev pub keepOne : Modifier → Kept → Kept
 keepOne q k =
     cond (ltb (k .count) 8)
     (record { count = k .count + 1; modifiers = set (k .modifiers) (k .count) q })
     (record { count = 9; modifiers = k .modifiers })
 
--- those of a list, in order
+-- the modifiers of a list kept, in order
 unfoldable pub keepAll : List Modifier → Kept → Kept
 keepAll [] k = k
 keepAll (q ∷ qs) k = keepAll qs (keepOne q k)
 
--- the shape of what was kept
+-- the shape of a nest with the modifiers that were kept
 abbrev pub shapeWith : Nest → Kept → Shape
 shapeWith m k = record {
   dims = m .loops;
@@ -41,6 +41,6 @@ shapeWith m k = record {
   coupling = couplingOf (m .coupled);
 }
 
--- the shape of a nest with its modifiers as they are kept
+-- the shape of a nest with all its modifiers kept
 abbrev pub keptShape : Nest → Shape
 keptShape m = shapeWith m (keepAll (modifiersOf m) noneKept)

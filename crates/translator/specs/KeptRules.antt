@@ -14,6 +14,7 @@ use lib.ListN.{getD, drop}
 use lib.Dec.{ltb}
 use borrow.Author.Tests.{ltb-true, ltb-false, lt-ltb, le-ltb}
 use Rattle.codec.specs.TestLaws.{never, or-false}
+use Rattle.codec.specs.Refusals.{is-numbered}
 use Rattle.codec.specs.declared.refusal.Refusal.{Refusal}
 use Rattle.codec.specs.declared.refusal.Refusal.the-variants.{TooMany, LowHigh, Product}
 use Rattle.engine.specs.Rules.{lastIndex, product}
@@ -52,13 +53,13 @@ outside-lasts m t n e =
     let e : drop (suc t) (highsOf m) ≡ highsFrom m (suc t) n = drop-highs m (suc t) 0 (m .loops) (omega arith) ∙ rw (a, b) in
     ap (map lastIndex) (sym e)
 
--- low and high of one loop
-record Kept (m : Nest) (t : ℕ) : Type 0 where
+-- the rule of 8 of loop t: its low is not below 0, its high not above 4,096
+record LowHighAt (m : Nest) (t : ℕ) : Type 0 where
   low : lessOf m t ≤ getD (m .counts) t 0
   high : highOf m t ≤ 4096
 
 -- the rule holds of the loops from t on exactly if it holds of loop t and of those outside it
-kept-step : (m : Nest) (t n : ℕ) → t + suc n ≡ m .loops → (lowOrHighFrom m t (suc n) ≡ false) ↔ (Kept m t × (lowOrHighFrom m (suc t) n ≡ false))
+kept-step : (m : Nest) (t n : ℕ) → t + suc n ≡ m .loops → (lowOrHighFrom m t (suc n) ≡ false) ↔ (LowHighAt m t × (lowOrHighFrom m (suc t) n ≡ false))
 unfolding lowOrHighFrom
 kept-step m t n e = rw (outside-lasts m t n e) (there, back)
   where
@@ -68,26 +69,26 @@ kept-step m t n e = rw (outside-lasts m t n e) (there, back)
     high : Bool
     high = ltb 4096 (highOf m t)
 
-    there : (low || high || lowOrHighFrom m (suc t) n) ≡ false → Kept m t × (lowOrHighFrom m (suc t) n ≡ false)
+    there : (low || high || lowOrHighFrom m (suc t) n) ≡ false → LowHighAt m t × (lowOrHighFrom m (suc t) n ≡ false)
     there f =
         let p = or-false (low || high) (lowOrHighFrom m (suc t) n) f in
         let q = or-false low high (p .0) in
         (record { low = ltb-false (getD (m .counts) t 0) (lessOf m t) (q .0); high = ltb-false 4096 (highOf m t) (q .1) }, p .1)
 
-    back : Kept m t × (lowOrHighFrom m (suc t) n ≡ false) → (low || high || lowOrHighFrom m (suc t) n) ≡ false
+    back : LowHighAt m t × (lowOrHighFrom m (suc t) n ≡ false) → (low || high || lowOrHighFrom m (suc t) n) ≡ false
     back k = rw (le-ltb (getD (m .counts) t 0) (lessOf m t) (k .0 .low), le-ltb 4096 (highOf m t) (k .0 .high), k .1)
 
 -- of each of them
-kept-from : (m : Nest) (t n : ℕ) → t + n ≡ m .loops → lowOrHighFrom m t n ≡ false → (k : ℕ) → t ≤ k → k < m .loops → Kept m k
+kept-from : (m : Nest) (t n : ℕ) → t + n ≡ m .loops → lowOrHighFrom m t n ≡ false → (k : ℕ) → t ≤ k → k < m .loops → LowHighAt m k
 kept-from m t zero e f k h l = absurd (omega arith)
 kept-from m t (suc n) e f k h l = go (decLt t k) (kept-from m (suc t) n (omega arith) (kept-step m t n e .0 f .1) k)
   where
-    go : Dec (t < k) → (suc t ≤ k → k < m .loops → Kept m k) → Kept m k
+    go : Dec (t < k) → (suc t ≤ k → k < m .loops → LowHighAt m k) → LowHighAt m k
     go (yes q) ih = ih q l
-    go (no q) ih = let z : t ≡ k = omega arith in subst (Kept m) z (kept-step m t n e .0 f .0)
+    go (no q) ih = let z : t ≡ k = omega arith in subst (LowHighAt m) z (kept-step m t n e .0 f .0)
 
 -- and it is enough that it does
-clear-from : (m : Nest) (t n : ℕ) → t + n ≡ m .loops → ((k : ℕ) → k < m .loops → Kept m k) → lowOrHighFrom m t n ≡ false
+clear-from : (m : Nest) (t n : ℕ) → t + n ≡ m .loops → ((k : ℕ) → k < m .loops → LowHighAt m k) → lowOrHighFrom m t n ≡ false
 unfolding lowOrHighFrom
 clear-from m t zero e h = refl
 clear-from m t (suc n) e h = kept-step m t n e .1 (h t (omega arith), clear-from m (suc t) n (omega arith) h)
@@ -96,7 +97,7 @@ clear-from m t (suc n) e h = kept-step m t n e .1 (h t (omega arith), clear-from
 pub low-high-kept : (m : Nest) → (lowOrHigh m ≡ false) ↔ LowHighKept m
 low-high-kept m = (
   λ f.
-      let kept : (k : ℕ) → k < m .loops → Kept m k = λ k. kept-from m 0 (m .loops) (omega arith) f k (omega arith) in
+      let kept : (k : ℕ) → k < m .loops → LowHighAt m k = λ k. kept-from m 0 (m .loops) (omega arith) f k (omega arith) in
       record { low = λ t l. kept t l .low; high = λ t l. kept t l .high },
   λ h. clear-from m 0 (m .loops) (omega arith) (λ k l. record { low = h .low k l; high = h .high k l }),
 )
@@ -119,9 +120,9 @@ not-kept m h = go (lowOrHigh m) refl
 
 -- a rule that is broken refuses the nest
 broken-first : (m : Nest) (x : Refusal) → Breaks m x → firstOf (checksOf m) ≡ Because x
-broken-first m x (many e h) = rules-first m ∙ rw (lt-ltb 8 (nonzeroOf m) h, e)
-broken-first m x (low-high e h k) = rules-first m ∙ rw (le-ltb 8 (nonzeroOf m) h, not-kept m k, e)
-broken-first m x (large e h k l) = rules-first m ∙ rw (le-ltb 8 (nonzeroOf m) h, low-high-kept m .1 k, lt-ltb 1048576 (product (highsOf m)) l, e)
+broken-first m x (many e h) = rules-first m ∙ rw (lt-ltb 8 (nonzeroOf m) h, is-numbered x 6 e)
+broken-first m x (low-high e h k) = rules-first m ∙ rw (le-ltb 8 (nonzeroOf m) h, not-kept m k, is-numbered x 8 e)
+broken-first m x (large e h k l) = rules-first m ∙ rw (le-ltb 8 (nonzeroOf m) h, low-high-kept m .1 k, lt-ltb 1048576 (product (highsOf m)) l, is-numbered x 9 e)
 
 -- all are kept, or one is the first that is broken
 kept-or-broken : (m : Nest) → AllKept m ⊎ ((x : Refusal) × Breaks m x)

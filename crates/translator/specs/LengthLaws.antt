@@ -23,9 +23,9 @@ use Rattle.translator.specs.FieldLists.{All}
 use Rattle.translator.specs.Reading.{nest, refused, nestAt, numbersBytes, nestBytes}
 use Rattle.translator.specs.Reading
 use Rattle.translator.specs.Acceptance.{InRange}
-use Rattle.translator.specs.NestStands.{Ranged}
+use Rattle.translator.specs.NestStands.{NumberInRange}
 use Rattle.translator.specs.NestWritten.{ranged-all}
-use Rattle.translator.specs.NestingLaws.{Answer, nest-answer, refused-read}
+use Rattle.translator.specs.NestingLaws.{NestOrRefusal, nest-answer, refused-read}
 use Rattle.translator.specs.declared.nest.Nest.{Nest}
 
 -- ---- one number
@@ -62,7 +62,7 @@ mostFor (base a) = 3
 mostFor (stride a d) = 4
 
 -- a number in its range has no more
-number-most : (m : Nest) → m .loops ≤ 7 → (f : Field) → Ranged m (m .loops) f → length (numberBytes (numberIn f m)) ≤ mostFor f
+number-most : (m : Nest) → m .loops ≤ 7 → (f : Field) → NumberInRange m (m .loops) f → length (numberBytes (numberIn f m)) ≤ mostFor f
 unfolding mostFor
 number-most m l width h = groups-below 4 0 _ (omega arith)
 number-most m l loops h = groups-below 4 0 _ (omega arith)
@@ -81,7 +81,7 @@ mostOf [] = 0
 mostOf (f ∷ fs) = mostFor f + mostOf fs
 
 -- numbers in their ranges, in a row, have no more
-numbers-most : (m : Nest) → m .loops ≤ 7 → (fs : List Field) → All (Ranged m (m .loops)) fs → length (numbersBytes m fs) ≤ mostOf fs
+numbers-most : (m : Nest) → m .loops ≤ 7 → (fs : List Field) → All (NumberInRange m (m .loops)) fs → length (numbersBytes m fs) ≤ mostOf fs
 unfolding All numbersBytes mostOf
 numbers-most m l [] h = omega arith
 numbers-most m l (f ∷ fs) h =
@@ -111,7 +111,7 @@ nest-most m r = omega (arith, numbers-most m (r .loops-most) (fieldsOf (m .loops
 pub long-refused : (s : List ℕ) → areBytes s → 195 < length s → (x : Refusal) × (at : ℕ) × (nestAt s ≡ refused x at)
 long-refused s p h = by (nest-answer s p)
   where
-    by : Answer s → (x : Refusal) × (at : ℕ) × (nestAt s ≡ refused x at)
+    by : NestOrRefusal s → (x : Refusal) × (at : ℕ) × (nestAt s ≡ refused x at)
     by (inl (n, a, e)) = absurd (omega (arith, ap length e, nest-most n (a .range)))
     by (inr (x, at, r)) = (x, at, refused-read s p x at r)
 

@@ -31,7 +31,7 @@ pub mod LongNests
 pub mod PremiseTests
 pub mod PremiseLaws
 pub mod RectangleLaws
-pub mod Premises
+pub mod ReadyNests
 pub mod Limits
 pub mod NestRuns
 pub mod Parts

@@ -8,14 +8,7 @@ use Prim.Native.Nat.{ℕ, zero, suc}
 use mathlib.Core.Path.{_≡_, refl}
 use mathlib.Core.List.{List, [], _∷_, _++_}
 use lib.ListN.{length, replicate}
-use Rattle.codec.specs.Numbers.{groupsAt, numberAt, signedOf}
-use Rattle.engine.specs.Rules.{product}
-use Rattle.engine.specs.Checks.{firstOf}
-use Rattle.translator.specs.Fields.{termFields, loopFields, strideFields}
-use Rattle.translator.specs.NestRules.{nonzeroFor, nonzeroFrom, total, highsFrom, lowOrHighFrom}
-use Rattle.translator.specs.Reading.{nestAt}
-use Rattle.translator.specs.Reading
-use Rattle.translator.specs.RefusedNests.{accepted, no, heard}
+use Rattle.translator.specs.RefusedNests.{accepted, refusedWith, judged}
 
 -- n times the same bytes
 unfoldable pub times : ℕ → List ℕ → List ℕ
@@ -55,10 +48,8 @@ longestAccepted =
 -- 21 terms are too many: 6; with eight of them it is accepted
 pub lengths :
     (length longest ≡ 195)
-    × (heard (nestAt longest) ≡ no 6 0)
+    × (judged longest ≡ refusedWith 6 0)
     × (length longestAccepted ≡ 151)
-    × (heard (nestAt longestAccepted) ≡ accepted)
-unfolding numberAt groupsAt signedOf termFields loopFields strideFields Reading.readFrom nestAt
-    nonzeroFor nonzeroFrom total highsFrom lowOrHighFrom product firstOf heard
-    times longCount longTerm longAccess longLoop longest longestAccepted
+    × (judged longestAccepted ≡ accepted)
+unfolding judged times longCount longTerm longAccess longLoop longest longestAccepted
 lengths = (refl, refl, refl, refl)

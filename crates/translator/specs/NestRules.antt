@@ -25,17 +25,17 @@ nonzero (pos zero) = 0
 nonzero (pos (suc n)) = 1
 nonzero (negsuc n) = 1
 
--- of n loops from t on, for loop o outside them
+-- how many of the terms for loop o, of n loops from t on inside it, are not 0
 unfoldable pub nonzeroFor : Nest → ℕ → ℕ → ℕ → ℕ
 nonzeroFor m o t zero = 0
 nonzeroFor m o t (suc n) = nonzero (termOf m t o) + nonzeroFor m o (suc t) n
 
--- for n loops from o on
+-- how many terms for n loops from o on, of all loops inside each, are not 0
 unfoldable pub nonzeroFrom : Nest → ℕ → ℕ → ℕ
 nonzeroFrom m o zero = 0
 nonzeroFrom m o (suc n) = nonzeroFor m o 0 o + nonzeroFrom m (suc o) n
 
--- "a size modifier .. for each nonzero term": how many there are
+-- "a size modifier .. for each nonzero term": how many terms of a nest are not 0
 abbrev pub nonzeroOf : Nest → ℕ
 nonzeroOf m = nonzeroFrom m 0 (m .loops)
 
@@ -51,7 +51,7 @@ abbrev pub subtracting : ℤ → ℕ
 subtracting (pos n) = 0
 subtracting (negsuc n) = suc n
 
--- of all terms of loop t for the loops from o on, each times what stands for its loop in a list
+-- the sum, over the terms of loop t for the loops from o on, of what f takes of a term times what a list has for that loop
 unfoldable pub total : (ℤ → ℕ) → Nest → ℕ → ℕ → List ℕ → ℕ
 total f m t o [] = 0
 total f m t o (k ∷ ks) = f (termOf m t o) * k + total f m t (suc o) ks
@@ -61,7 +61,7 @@ total f m t o (k ∷ ks) = f (termOf m t o) * k + total f m t (suc o) ks
 abbrev pub highWith : Nest → ℕ → List ℕ → ℕ
 highWith m t lasts = getD (m .counts) t 0 + total adding m t (suc t) lasts
 
--- "low = size less the same over subtracting ones": what is subtracted
+-- "low = size less the same over subtracting ones": what is subtracted from the size of loop t
 abbrev pub lessWith : Nest → ℕ → List ℕ → ℕ
 lessWith m t lasts = total subtracting m t (suc t) lasts
 

@@ -56,7 +56,7 @@ modifiersAt m o t zero = []
 modifiersAt m o t (suc n) =
     cond (eqb (natAbs (termOf m t o)) 0) (modifiersAt m o (suc t) n) (modifierOf m o t ∷ modifiersAt m o (suc t) n)
 
--- those of n dimensions from o on
+-- the modifiers of n dimensions from o on, in the order of the sheet
 unfoldable pub modifiersFrom : Nest → ℕ → ℕ → List Modifier
 modifiersFrom m o zero = []
 modifiersFrom m o (suc n) = modifiersAt m o 0 o ++ modifiersFrom m (suc o) n
@@ -74,12 +74,12 @@ abbrev pub dimensionOf : Nest → ℕ → Access → ℕ → Dimension
 dimensionOf m register a d =
     record { register = register; offset = noBytes; size = getD (m .counts) d 0; stride = getD (a .strides) d noElements }
 
--- n dimensions from d on
+-- n dimensions of the stream of an access, from d on
 unfoldable pub dimensionsFrom : Nest → ℕ → Access → ℕ → ℕ → List Dimension
 dimensionsFrom m register a d zero = []
 dimensionsFrom m register a d (suc n) = dimensionOf m register a d ∷ dimensionsFrom m register a (suc d) n
 
--- what the sheet gives for a register
+-- what the sheet gives for a register: the stream of an access
 abbrev pub streamOf : Nest → ℕ → Kind → Access → Stream
 streamOf m register kind a =
     record { header = headerFor m register kind; base = a .base; dimensions = dimensionsFrom m register a 0 (m .loops); modifiers = modifiersOf m }
@@ -112,13 +112,13 @@ modifierOp register q =
       displacement = q .displacement;
     })
 
--- n dimensions from d on, each followed by its modifiers
+-- n dimensions of the stream of an access, from d on, each followed by the modifiers that it owns
 unfoldable pub dimensionOps : Nest → ℕ → Access → ℕ → ℕ → List Operation
 dimensionOps m register a d zero = []
 dimensionOps m register a d (suc n) =
     (op.Dimension (dimensionOf m register a d) ∷ map (modifierOp register) (modifiersAt m d 0 d)) ++ dimensionOps m register a (suc d) n
 
--- one stream: open, its dimensions, end
+-- the operations of one stream: open, its dimensions, end
 abbrev pub streamOps : Nest → ℕ → Kind → Access → List Operation
 streamOps m register kind a =
     (op.Open (headerFor m register kind) (a .base) ∷ dimensionOps m register a 0 (m .loops)) ++ (op.End register ∷ [])
@@ -135,6 +135,6 @@ runOp = op.Run 1 1
 abbrev pub calculationOf : Nest → Calculation
 calculationOf m = record { action = m .action; destination = 3; first = 1; second = 2 }
 
--- its bytes, "header bits 19-15 and 23-22 zero"
+-- the bytes of the sheet, "header bits 19-15 and 23-22 zero"
 unfoldable pub sheetOf : Nest → List ℕ
 sheetOf m = bytesOfAll (sheetOps m) ++ (operationBytes 0 runOp ++ calculationBytes (calculationOf m))

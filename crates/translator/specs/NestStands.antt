@@ -1,7 +1,7 @@
 -- Numbers that stand in bytes give a nest in range and tidy, and the bytes are its own.
 --
 --   none-sized, none-based, none-term, none-stride   the nest with no number yet
---   Ranged           a number of a nest in its range
+--   NumberInRange    a number of a nest in its range
 --   stood            the nest that numbers give
 use Prim.Native.Nat.{ℕ, zero, suc, _≤_, _<_}
 use mathlib.Core.Path.{_≡_, refl, sym, _∙_, ap, subst}
@@ -22,7 +22,7 @@ use Rattle.translator.specs.Fields.{Role, first, second, destination, te
 use Rattle.translator.specs.FieldLists.{All, EachField, OfAccess, all-rest}
 use Rattle.translator.specs.PlaceLaws.{place, put-sized, Sized, strideNumber}
 use Rattle.translator.specs.SameNests.{Based, Long, signed-same, sized-long}
-use Rattle.translator.specs.FieldPlaces.{Fresh, Apart, fields-apart, fields-fit, count-fresh, term-fresh, stride-fresh, loops-fresh}
+use Rattle.translator.specs.FieldPlaces.{Fresh, Distinct, fields-distinct, fields-placed, count-fresh, term-fresh, stride-fresh, loops-fresh}
 use Rattle.translator.specs.NestNumbers.{stand-append, stand-sized, stand-based, stand-kept, stand-bytes, stand-holds}
 use Rattle.translator.specs.Reading.{numbersBytes, nestBytes}
 use Rattle.translator.specs.Acceptance.{AccessInRange, InRange, Tidy, Stand}
@@ -38,35 +38,35 @@ none-sized (suc (suc (suc (suc zero)))) = refl
 none-sized (suc (suc (suc (suc (suc zero))))) = refl
 none-sized (suc (suc (suc (suc (suc (suc p)))))) = refl
 
--- and bases of 0
+-- the nest with no number yet has bases of 0
 pub none-based : (a : Role) → Based (accessOf a noNest)
 none-based first = refl
 none-based second = refl
 none-based destination = refl
 
--- every number in its range
-abbrev pub Ranged : Nest → ℕ → Field → Type 0
-Ranged n D f = Holds (rangeOf D f) (numberIn f n)
+-- the number of a field of a nest is in its range
+abbrev pub NumberInRange : Nest → ℕ → Field → Type 0
+NumberInRange n D f = Holds (rangeOf D f) (numberIn f n)
 
 -- a signed number in its range, from how it is written
 reached : (z : ℤ) → natAbs (signedOf (unsignedOf z)) ≤ 1048576 → natAbs z ≤ 1048576
 reached z h = rw signed-unsigned at h
 
 -- the numbers of an access
-access-ranged : (n : Nest) (D : ℕ) (a : Role) → Based (accessOf a n) → OfAccess (Ranged n D) D a → AccessInRange D (accessOf a n)
+access-ranged : (n : Nest) (D : ℕ) (a : Role) → Based (accessOf a n) → OfAccess (NumberInRange n D) D a → AccessInRange D (accessOf a n)
 access-ranged n D a b h = record {
   base-least = rw (← b) (nonneg-plain (pos (natAbs (accessOf a n .base .0))) .0 refl);
   base-most = rw (← b) (record { le = test-plain (leb (natAbs (accessOf a n .base .0)) 1048576) .0 (le-leb _ _ (h .base .1)) });
   strides = λ d u. reached (getD (accessOf a n .strides) d noElements .0) (h .strides d u);
 }
 
--- every stride of it is 0
+-- every stride of the nest with no number yet is 0
 pub none-stride : (a : Role) (d : ℕ) → d < 7 → numberIn (stride a d) noNest ≡ 0
 none-stride first d h = ap strideNumber (getD-replicate 7 d noElements noElements h)
 none-stride second d h = ap strideNumber (getD-replicate 7 d noElements noElements h)
 none-stride destination d h = ap strideNumber (getD-replicate 7 d noElements noElements h)
 
--- and every term
+-- every term of the nest with no number yet is 0
 pub none-term : (t o : ℕ) → t < 7 → o < 7 → numberIn (term t o) noNest ≡ 0
 none-term t o h k = ap unsignedOf (getD-replicate 49 (termPlace t o) (pos 0) (pos 0) (omega arith))
 
@@ -120,7 +120,7 @@ stood-tidy s D to n h e most = record {
 -- numbers that stand there: the nest in range and tidy, and its bytes
 pub stood : (s : List ℕ) (mid to : ℕ) (k n : Nest) → Stand s headFields 0 noNest mid k → Stand s (restFields (k .loops)) mid k to n
     → InRange n × Tidy n × Stands s 0 (nestBytes n) to
-unfolding Stand All Apart nestBytes
+unfolding Stand All Distinct nestBytes
 stood s mid to k n h l = (in-range, stood-tidy s D to n all loops-are most, bytes)
   where
     D : ℕ
@@ -144,18 +144,18 @@ stood s mid to k n h l = (in-range, stood-tidy s D to n all loops-are most, byte
     bytes : Stands s 0 (nestBytes n) to
     bytes =
         subst (λ d. Stands s 0 (numbersBytes n (fieldsOf d)) to) (sym loops-are)
-        (stand-bytes s (fieldsOf D) 0 to noNest n all (omega arith) none-sized (fields-apart D most) (fields-fit D most))
+        (stand-bytes s (fieldsOf D) 0 to noNest n all (omega arith) none-sized (fields-distinct D most) (fields-placed D most))
 
     sized : Sized headed
     sized = put-sized loops (all .4 .0) (put width (all .0) noNest) D (all .4 .3) (put-sized width (all .0) noNest D (all .3) none-sized)
 
-    held : All (Ranged n D) (coupled ∷ operation ∷ restFields D)
+    held : All (NumberInRange n D) (coupled ∷ operation ∷ restFields D)
     held =
-        subst (λ d. All (Ranged n d) (coupled ∷ operation ∷ restFields D)) read
-        (stand-holds s (coupled ∷ operation ∷ restFields D) (all .4 .1) to headed n (all .4 .4) sized (fields-apart D most .1 .1) (fields-fit D most .1 .1) (loops-fresh D))
+        subst (λ d. All (NumberInRange n d) (coupled ∷ operation ∷ restFields D)) read
+        (stand-holds s (coupled ∷ operation ∷ restFields D) (all .4 .1) to headed n (all .4 .4) sized (fields-distinct D most .1 .1) (fields-placed D most .1 .1) (loops-fresh D))
 
-    each : EachField (Ranged n D) D
-    each = all-rest (Ranged n D) D .0 (held .1 .1)
+    each : EachField (NumberInRange n D) D
+    each = all-rest (NumberInRange n D) D .0 (held .1 .1)
 
     access : (a : Role) → AccessInRange (n .loops) (accessOf a n)
     access a =

@@ -29,13 +29,13 @@ use Rattle.translator.specs.Fields.{Role, first, second, destination, Fi
 use Rattle.translator.specs.FieldLists.{All, EachField, OfAccess, all-rest}
 use Rattle.translator.specs.PlaceLaws.{place, strideNumber}
 use Rattle.translator.specs.SameNests.{Based, Long, Proper, sized-long, nests-same}
-use Rattle.translator.specs.FieldPlaces.{Fresh, fields-apart, fields-fit, count-fresh, term-fresh, stride-fresh, loops-fresh}
+use Rattle.translator.specs.FieldPlaces.{Fresh, fields-distinct, fields-placed, count-fresh, term-fresh, stride-fresh, loops-fresh}
 use Rattle.translator.specs.NestNumbers.{stand-cut, holds-small, stand-sized, stand-based, stand-kept, copied, copied-stands, copied-kept, copied-there}
 use Rattle.translator.specs.Reading.{numbersBytes, nestBytes}
 use Rattle.translator.specs.Acceptance.{AccessInRange, InRange, Tidy, Stand}
 use Rattle.translator.specs.declared.nest.Access.{Access}
 use Rattle.translator.specs.declared.nest.Nest.{Nest}
-use Rattle.translator.specs.NestStands.{none-sized, none-based, none-term, none-stride, Ranged}
+use Rattle.translator.specs.NestStands.{none-sized, none-based, none-term, none-stride, NumberInRange}
 
 -- widths have codes from 0 to 3
 width-small : (w : Width) → widthCode w ≤ 3
@@ -60,7 +60,7 @@ based : (D : ℕ) (x : Access) → AccessInRange D x → Based x
 based D x h = pos-natAbs (x .base .0) (yes-nonNeg (h .base-least))
 
 -- the numbers of an access are in their ranges
-of-access : (n : Nest) (D : ℕ) (a : Role) → AccessInRange D (accessOf a n) → OfAccess (Ranged n D) D a
+of-access : (n : Nest) (D : ℕ) (a : Role) → AccessInRange D (accessOf a n) → OfAccess (NumberInRange n D) D a
 of-access n D a h =
     let b : pos (natAbs (accessOf a n .base .0)) ≤ℤ pos 1048576 = subst (λ z. z ≤ℤ pos 1048576) (sym (based D (accessOf a n) h)) (h .base-most) in
     record {
@@ -75,7 +75,7 @@ access-in n r second = r .second
 access-in n r destination = r .destination
 
 -- every number of a nest in range is in its range
-pub ranged-all : (n : Nest) → InRange n → All (Ranged n (n .loops)) (fieldsOf (n .loops))
+pub ranged-all : (n : Nest) → InRange n → All (NumberInRange n (n .loops)) (fieldsOf (n .loops))
 unfolding All
 ranged-all n r = (
   (omega arith, width-small (n .width)),
@@ -85,7 +85,7 @@ ranged-all n r = (
       (omega arith, r .coupled),
       (
         (r .operation, action-small (n .action)),
-        all-rest (Ranged n (n .loops)) (n .loops) .1
+        all-rest (NumberInRange n (n .loops)) (n .loops) .1
             (record {
               loops = λ t u. record { count = (omega arith, r .counts t u); terms = λ o v w. rw (signed-unsigned (termOf n t o)) (r .terms t o v w) };
               accesses = λ a. of-access n (n .loops) a (access-in n r a);
@@ -120,7 +120,7 @@ module _ (s : List ℕ) (to : ℕ) (n : Nest) (r : InRange n) (d : Tidy n) where
 
   -- what they give
   there : All (λ f. numberIn f again ≡ numberIn f n) fields
-  there = copied-there n (n .loops) fields noNest (ranged-all n r) none-sized (fields-apart (n .loops) (r .loops-most)) (fields-fit (n .loops) (r .loops-most))
+  there = copied-there n (n .loops) fields noNest (ranged-all n r) none-sized (fields-distinct (n .loops) (r .loops-most)) (fields-placed (n .loops) (r .loops-most))
 
   -- by loops and accesses
   each : EachField (λ f. numberIn f again ≡ numberIn f n) (n .loops)

@@ -3,7 +3,7 @@
 --   holds-plain                          the range of a number, as a test
 --   read-through, read-fault, read-either   numbers read one by one: all of them, or the refusal of the first fault
 --   accepted-read, refused-read          an accepted nest is read from its bytes; the refusals are given
---   Answer, nest-answer                  every list of bytes is an accepted nest, or has its refusal
+--   NestOrRefusal, nest-answer           every list of bytes is an accepted nest, or has its refusal
 use Prim.Native.Nat.{ℕ, _<_}
 use mathlib.Core.Path.{_≡_, refl, sym, _∙_, ap, subst}
 use mathlib.Core.Logic.{_⊎_, inl, inr, _↔_}
@@ -16,6 +16,7 @@ use lib.Dec.{leb}
 use lib.IntN.{natAbs}
 use borrow.Author.Tests.{lt-ltb, le-ltb}
 use Rattle.codec.specs.TestLaws.{never}
+use Rattle.codec.specs.Refusals.{is-numbered}
 use Rattle.codec.specs.Numbers.{numberAt, signedOf}
 use Rattle.codec.specs.NumberLaws.{areBytes, Stands}
 use Rattle.codec.specs.StandingLaws.{stands-all, all-stand}
@@ -59,9 +60,9 @@ pub read-fault : (s : List ℕ) → areBytes s → (x : Refusal) (at : ℕ) (fs 
     → readFrom s fs place m ≡ Reading.Read.refused x at
 unfolding AtFault readFrom
 read-fault s p x at [] place m h = absurd h
-read-fault s p x at (f ∷ fs) place m (Fault.unread e q h) = rw (no-number s place p .1 h, e, q)
+read-fault s p x at (f ∷ fs) place m (Fault.unread e q h) = rw (no-number s place p .1 h, is-numbered x 1 e, q)
 read-fault s p x at (f ∷ fs) place m (Fault.beyond v to e q h k) =
-    rw (number-there s place v to h, fails (holds (rangeOf (m .loops) f) v) (holds-plain (rangeOf (m .loops) f) v) k, e, q)
+    rw (number-there s place v to h, fails (holds (rangeOf (m .loops) f) v) (holds-plain (rangeOf (m .loops) f) v) k, is-numbered x 2 e, q)
 read-fault s p x at (f ∷ fs) place m (Fault.later v to h k l) =
     rw (number-there s place v to h, holds-plain (rangeOf (m .loops) f) v .1 k)
     (read-fault s p x at fs to (put f v m) l)
@@ -111,24 +112,24 @@ unfolding nestAt
 refused-read s p x at (Refuses.head h) = rw (read-fault s p x at headFields 0 noNest h)
 refused-read s p x at (Refuses.rest m to h l) =
     rw (read-through s headFields 0 to noNest m h, read-fault s p x at (restFields (m .loops)) to m l)
-refused-read s p x at (Refuses.trailing m r d h l e) = nest-read s at m r d h ∙ rw (lt-ltb at (length s) l, e)
+refused-read s p x at (Refuses.trailing m r d h l e) = nest-read s at m r d h ∙ rw (lt-ltb at (length s) l, is-numbered x 2 e)
 refused-read s p x at (Refuses.rule m r d e b q) = nest-whole s m r d e ∙ rw (rules-broken m x .1 b, q)
 
 -- what bytes can be: an accepted nest, or a refusal that is due
-abbrev pub Answer : List ℕ → Type 0
-Answer s = ((n : Nest) × Accepted n × (s ≡ nestBytes n)) ⊎ ((x : Refusal) × (at : ℕ) × Refuses s x at)
+abbrev pub NestOrRefusal : List ℕ → Type 0
+NestOrRefusal s = ((n : Nest) × Accepted n × (s ≡ nestBytes n)) ⊎ ((x : Refusal) × (at : ℕ) × Refuses s x at)
 
 -- every list of bytes is one of these
-pub nest-answer : (s : List ℕ) → areBytes s → Answer s
+pub nest-answer : (s : List ℕ) → areBytes s → NestOrRefusal s
 nest-answer s p = head (read-either s p headFields 0 noNest)
   where
-    ruled : (n : Nest) → InRange n → Tidy n → s ≡ nestBytes n → (w : Why) → firstOf (checksOf n) ≡ w → Answer s
+    ruled : (n : Nest) → InRange n → Tidy n → s ≡ nestBytes n → (w : Why) → firstOf (checksOf n) ≡ w → NestOrRefusal s
     ruled n r d e Nothing f =
         let k = rules-kept n .0 f in
         inl (n, record { range = r; tidy = d; few = k .0; low-high = k .1; small = k .2 }, e)
     ruled n r d e (Because x) f = inr (x, 0, Refuses.rule n r d e (rules-broken n x .0 f) refl)
 
-    ended : (n : Nest) (to : ℕ) → InRange n → Tidy n → Stands s 0 (nestBytes n) to → Dec (to < length s) → Answer s
+    ended : (n : Nest) (to : ℕ) → InRange n → Tidy n → Stands s 0 (nestBytes n) to → Dec (to < length s) → NestOrRefusal s
     ended n to r d h (yes l) = inr (OutOfRange, to, Refuses.trailing n r d h l refl)
     ended n to r d h (no l) =
         let e : to ≡ length s = omega (arith, h .within) in
@@ -136,10 +137,10 @@ nest-answer s p = head (read-either s p headFields 0 noNest)
 
     rest : (k : Nest) (mid : ℕ) → Stand s headFields 0 noNest mid k
         → ((x : Refusal) × (at : ℕ) × AtFault s x at (restFields (k .loops)) mid k) ⊎ ((n : Nest) × (to : ℕ) × Stand s (restFields (k .loops)) mid k to n)
-        → Answer s
+        → NestOrRefusal s
     rest k mid h (inl (x, at, l)) = inr (x, at, Refuses.rest k mid h l)
     rest k mid h (inr (n, to, l)) = let q = stood s mid to k n h l in ended n to (q .0) (q .1) (q .2) (decLt to (length s))
 
-    head : ((x : Refusal) × (at : ℕ) × AtFault s x at headFields 0 noNest) ⊎ ((k : Nest) × (mid : ℕ) × Stand s headFields 0 noNest mid k) → Answer s
+    head : ((x : Refusal) × (at : ℕ) × AtFault s x at headFields 0 noNest) ⊎ ((k : Nest) × (mid : ℕ) × Stand s headFields 0 noNest mid k) → NestOrRefusal s
     head (inl (x, at, h)) = inr (x, at, Refuses.head h)
     head (inr (k, mid, h)) = rest k mid h (read-either s p (restFields (k .loops)) mid k)

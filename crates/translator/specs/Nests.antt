@@ -1,8 +1,8 @@
 -- What a nest means: its visits, and the plain loop over them. Nothing of sheets or descriptors stands here.
 --
 --   termsAt, countAt, visits     the count of a loop at given outer indices; the visits, by the loops of streams
---   placeUpTo, placeOf           where an element of an access lies
---   valueOf, visited, plainLoop  destination = operation of both sources, visit by visit
+--   widthOf, placeUpTo, placeOf  the width; where an element of an access lies
+--   valueOf, visited, plainOver, plainLoop   destination = operation of both sources, visit by visit
 --   couplingOf, visitGroups      the coupled loop; what no chunk of visits crosses
 --
 -- Loops are counted from 0 here, innermost first. A visit is its index vector, innermost index first. The outer indices of loop t,
@@ -35,28 +35,28 @@ termsAt m t o (k ∷ outer) = termOf m t o *ℤ pos k +ℤ termsAt m t (suc o) o
 unfoldable pub countAt : Nest → ℕ → List ℕ → ℕ
 countAt m t outer = natural (pos (getD (m .counts) t 0) +ℤ termsAt m t (suc t) outer)
 
--- the visits, in order
+-- the visits of a nest, outermost loop slowest
 unfoldable pub visits : Nest → List (List ℕ)
 visits m = loops (countAt m) 0 (m .loops) []
 
 -- ---- places
 
--- the width in bytes
+-- the element width of a nest, in bytes
 abbrev pub widthOf : Nest → ℕ
 widthOf m = bytesOf (m .width)
 
--- "each a base (bytes) and D signed strides (elements)": the base and stride x index x width of the first n loops
+-- "each a base (bytes) and D signed strides (elements)": the base, and stride x index x width of the first d loops, at visit v
 unfoldable pub placeUpTo : Nest → Access → List ℕ → ℕ → ℤ
 placeUpTo m a v zero = a .base .0
 placeUpTo m a v (suc d) = placeUpTo m a v d +ℤ inBytes (getD (a .strides) d noElements .0) (getD v d 0) (widthOf m)
 
--- where the element of a visit lies
+-- where the element of an access lies at visit v
 abbrev pub placeOf : Nest → Access → List ℕ → ℤ
 placeOf m a v = placeUpTo m a v (m .loops)
 
 -- ---- the plain loop
 
--- the value of a source at a visit
+-- the value of a source at visit v, in a memory
 abbrev pub valueOf : Nest → Access → List ℕ → List ℕ → ℕ
 valueOf m a memory v = valueAt memory (natural (placeOf m a v)) (widthOf m)
 
@@ -66,12 +66,12 @@ visited m memory v =
     sets memory (natural (placeOf m (m .destination) v))
     (littleEndian (widthOf m) (lane (m .action) (8 * widthOf m) (valueOf m (m .first) memory v) (valueOf m (m .second) memory v)))
 
--- after visits in order
+-- memory after a list of visits, one behind the other
 unfoldable pub plainOver : Nest → List ℕ → List (List ℕ) → List ℕ
 plainOver m memory [] = memory
 plainOver m memory (v ∷ vs) = plainOver m (visited m memory v) vs
 
--- after all of them
+-- memory after the plain loop: after all visits of a nest
 abbrev pub plainLoop : Nest → List ℕ → List ℕ
 plainLoop m memory = plainOver m memory (visits m)
 
@@ -82,6 +82,6 @@ abbrev pub couplingOf : ℕ → Coupling
 couplingOf zero = Uncoupled
 couplingOf (suc c) = Coupled (suc c)
 
--- the visits in groups that no chunk crosses: all in one, or by the passes of the coupled loop
+-- the visits of a nest in groups that no chunk crosses: all in one, or by the passes of the coupled loop
 abbrev pub visitGroups : Nest → List (List (List ℕ))
 visitGroups m = groups (countAt m) (m .loops) (couplingOf (m .coupled))

@@ -17,7 +17,7 @@ use Rattle.translator.specs.NestSheets.{sheetOps, runOp, calculationOf}
 use Rattle.translator.specs.declared.nest.Nest.{Nest}
 use Rattle.translator.specs.declared.write.Page.{Page}
 
--- nothing is written
+-- a page of 1,024 bytes on which nothing is written
 pub record Blank (p : Page) : Type 0 where
   pub start : p .at ≡ 0
   pub long : length (p .bytes) ≡ 1024
@@ -28,26 +28,26 @@ placeAfter (To behind) at = behind
 placeAfter NoRoom at = at
 placeAfter OutOfRange at = at
 
--- one operation more
+-- a page with one operation more
 unfoldable pub putOne : Operation → Page → Page
 putOne o p = record {
   bytes = bytesAfter (operationInRange o) (operationBytes 0 o) (p .bytes) (p .at);
   at = placeAfter (writtenTo (operationInRange o) (operationBytes 0 o) (p .at) (length (p .bytes))) (p .at);
 }
 
--- those of a list, in order
+-- a page with the operations of a list more, in order
 unfoldable pub putAll : List Operation → Page → Page
 putAll [] p = p
 putAll (o ∷ os) p = putAll os (putOne o p)
 
--- one calculation more
+-- a page with one calculation more
 unfoldable pub putCalculation : Calculation → Page → Page
 putCalculation c p = record {
   bytes = bytesAfter (calculationInRange c) (calculationBytes c) (p .bytes) (p .at);
   at = placeAfter (writtenTo (calculationInRange c) (calculationBytes c) (p .at) (length (p .bytes))) (p .at);
 }
 
--- a page with the sheet of a nest
+-- a page with the sheet of a nest: a blank one, and on it the operations, the run and the calculation
 pub record SheetPage (m : Nest) (r : Page) : Type 0 where
   pub blank : Page
   pub empty : Blank blank

@@ -25,9 +25,9 @@ use Rattle.codec.specs.declared.refusal.Refusal.{Refusal}
 use Rattle.codec.specs.declared.refusal.Refusal.the-variants.{BadNumber, OutOfRange}
 use Rattle.engine.specs.declared.run.Verdict.{Verdict}
 use Rattle.engine.specs.declared.run.Verdict.the-variants.{Done, Refused}
-use Rattle.translator.specs.Fields.{Role, first, second, destination, Field, count, termFields, loopFields, strideFields, accessFields, between, rangeOf, holds, put, accessOf, withAccess, withBase, withStride}
+use Rattle.translator.specs.Fields.{Role, first, second, destination, Field, count, termFields, loopFields, strideFields, accessFields, between, rangeOf, holds, put, accessOf, withAccess, withBase, withStride, withTerm}
 use Rattle.translator.specs.Reading.{Read, upTo, refused, readFrom, onRead}
-use Rattle.translator.specs.Parts.{isRefused, readOf, partOf, accessRead, sideOf, withTerm, ReadAccess, got, not, stridesAt, accessAt}
+use Rattle.translator.specs.Parts.{isRefused, readOf, partOf, accessRead, sideOf, ReadAccess, read, unread, stridesAt, accessAt}
 use Rattle.translator.specs.declared.nest.Access.{Access}
 use Rattle.translator.specs.declared.nest.Nest.{Nest}
 use Rattle.translator.specs.declared.read.Part.{Part}
@@ -70,7 +70,7 @@ pub stop : {v : Verdict} {x : Refusal} {place : ℕ} {r : Read} (m : Nest) (at :
 stop m at e f = rw e (sym f)
 
 -- a refusal, with any access beside it
-pub stop-side : {v : Verdict} {x : Refusal} {place : ℕ} {r : ReadAccess} (a : Access) (at : ℕ) → v ≡ Refused x place → r ≡ not x place → accessRead v a at ≡ r
+pub stop-side : {v : Verdict} {x : Refusal} {place : ℕ} {r : ReadAccess} (a : Access) (at : ℕ) → v ≡ Refused x place → r ≡ unread x place → accessRead v a at ≡ r
 stop-side a at e f = rw e (sym f)
 
 -- numbers that were read
@@ -183,7 +183,7 @@ loops-end s t n at m h = let e : n - t ≡ 0 = omega arith in rw e
 module _ (s : List ℕ) (d n : ℕ) (at : ℕ) (a : Access) (h : d < n) where
   -- one stride is read, checked and put in, then the others
   stride-step : stridesAt s d (n - d) at a
-      ≡ signedField (λ x. not x at) (signedAt s at) isReach (λ z to. stridesAt s (d + 1) (n - (d + 1)) to (withStride d z a))
+      ≡ signedField (λ x. unread x at) (signedAt s at) isReach (λ z to. stridesAt s (d + 1) (n - (d + 1)) to (withStride d z a))
   unfolding stridesAt
   stride-step =
       let e : n - d ≡ suc (n - (d + 1)) = omega arith in
@@ -191,11 +191,11 @@ module _ (s : List ℕ) (d n : ℕ) (at : ℕ) (a : Access) (h : d < n) where
       rw (e, f)
 
   -- no number: refused with 1
-  pub stride-none : signedAt s at ≡ NoWhole → stridesAt s d (n - d) at a ≡ not BadNumber at
+  pub stride-none : signedAt s at ≡ NoWhole → stridesAt s d (n - d) at a ≡ unread BadNumber at
   stride-none e = stride-step ∙ rw e
 
   -- out of range: refused with 2
-  pub stride-over : {z : ℤ} {c : Cursor} → signedAt s at ≡ Whole z c → isReach z ≡ false → stridesAt s d (n - d) at a ≡ not OutOfRange at
+  pub stride-over : {z : ℤ} {c : Cursor} → signedAt s at ≡ Whole z c → isReach z ≡ false → stridesAt s d (n - d) at a ≡ unread OutOfRange at
   stride-over e k = stride-step ∙ rw (e, k)
 
   -- in range: it is put in, and the next strides are read
@@ -204,14 +204,14 @@ module _ (s : List ℕ) (d n : ℕ) (at : ℕ) (a : Access) (h : d < n) where
   stride-next e k = stride-step ∙ rw (e, k)
 
 -- no stride is left: nothing more is read
-pub strides-end : (s : List ℕ) (d n at : ℕ) (a : Access) → n ≤ d → stridesAt s d (n - d) at a ≡ got a at
+pub strides-end : (s : List ℕ) (d n at : ℕ) (a : Access) → n ≤ d → stridesAt s d (n - d) at a ≡ read a at
 unfolding stridesAt
 strides-end s d n at a h = let e : n - d ≡ 0 = omega arith in rw e
 
 -- an access read, put into a nest
 abbrev pub onAccess : Role → Nest → ReadAccess → Read
-onAccess r m (got a at) = upTo (withAccess r a m) at
-onAccess r m (not x at) = refused x at
+onAccess r m (read a at) = upTo (withAccess r a m) at
+onAccess r m (unread x at) = refused x at
 
 -- the access put in is the nest's
 access-put : (r : Role) (a : Access) (m : Nest) → accessOf r (withAccess r a m) ≡ a
@@ -227,30 +227,30 @@ put-access destination m = refl
 
 -- only the last access that is put in counts
 put-last : (r : Role) (a : Access) (m : Nest) (x : ReadAccess) → onAccess r (withAccess r a m) x ≡ onAccess r m x
-put-last first a m (got b at) = refl
-put-last first a m (not x at) = refl
-put-last second a m (got b at) = refl
-put-last second a m (not x at) = refl
-put-last destination a m (got b at) = refl
-put-last destination a m (not x at) = refl
+put-last first a m (read b at) = refl
+put-last first a m (unread x at) = refl
+put-last second a m (read b at) = refl
+put-last second a m (unread x at) = refl
+put-last destination a m (read b at) = refl
+put-last destination a m (unread x at) = refl
 
 -- a test decides alike on an access by itself and on it put into the nest
 on-cond : (r : Role) (m : Nest) (b : Bool) (x : ReadAccess) (y : Refusal) (at : ℕ)
-    → cond b (onAccess r m x) (refused y at) ≡ onAccess r m (cond b x (not y at))
+    → cond b (onAccess r m x) (refused y at) ≡ onAccess r m (cond b x (unread y at))
 on-cond r m true x y at = refl
 on-cond r m false x y at = refl
 
 -- a signed number of an access: read by itself, then put into the nest
 on-signed : (n : Number) (r : Role) (m : Nest) (at : ℕ) (k : ℤ → ℕ → Read) (next : ℤ → ℕ → ReadAccess)
     → ((z : ℤ) (to : ℕ) → k z to ≡ onAccess r m (next z to))
-    → field (λ x. refused x at) n (λ v. isReach (signedOf v)) (λ v to. k (signedOf v) to) ≡ onAccess r m (signedField (λ x. not x at) (asSigned n) isReach next)
+    → field (λ x. refused x at) n (λ v. isReach (signedOf v)) (λ v to. k (signedOf v) to) ≡ onAccess r m (signedField (λ x. unread x at) (asSigned n) isReach next)
 on-signed NoNumber r m at k next e = refl
 on-signed (Value v c) r m at k next e = rw (e (signedOf v) (c .at)) (on-cond r m (isReach (signedOf v)) (next (signedOf v) (c .at)) OutOfRange at)
 
 -- a number of an access: read by itself, then put into the nest
 on-field : (n : Number) (r : Role) (m : Nest) (at : ℕ) (allowed : ℕ → Bool) (k : ℕ → ℕ → Read) (next : ℕ → ℕ → ReadAccess)
     → ((v to : ℕ) → k v to ≡ onAccess r m (next v to))
-    → field (λ x. refused x at) n allowed k ≡ onAccess r m (field (λ x. not x at) n allowed next)
+    → field (λ x. refused x at) n allowed k ≡ onAccess r m (field (λ x. unread x at) n allowed next)
 on-field NoNumber r m at allowed k next e = refl
 on-field (Value v c) r m at allowed k next e = rw (e v (c .at)) (on-cond r m (allowed v) (next v (c .at)) OutOfRange at)
 
@@ -279,12 +279,12 @@ read-access s r n at m =
 
 module _ (s : List ℕ) (n at : ℕ) (a : Access) where
   -- no base: refused with 1
-  pub access-none : numberAt s at ≡ NoNumber → accessAt s n at a ≡ not BadNumber at
+  pub access-none : numberAt s at ≡ NoNumber → accessAt s n at a ≡ unread BadNumber at
   unfolding accessAt
   access-none e = rw e
 
   -- a base out of range: refused with 2
-  pub access-over : {v : ℕ} {c : Cursor} → numberAt s at ≡ Value v c → holds (between 0 1048576) v ≡ false → accessAt s n at a ≡ not OutOfRange at
+  pub access-over : {v : ℕ} {c : Cursor} → numberAt s at ≡ Value v c → holds (between 0 1048576) v ≡ false → accessAt s n at a ≡ unread OutOfRange at
   unfolding accessAt
   access-over e h = rw (e, h)
 

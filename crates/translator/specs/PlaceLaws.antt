@@ -1,10 +1,10 @@
 -- Every number of a nest has a place of its own.
 --
---   partsOf, partOf, indexOf     a nest's numbers in six parts; in which of them a number stands, and where
+--   partsOf, partNumber, indexOf a nest's numbers in six parts; in which of them a number stands, and where
 --   place                        both as one number
 --   number-there                 the number that is in stands at its place
 --   put-parts                    to put a number in changes what stands at its place, and nothing else
---   Sized, Fits, put-sized       parts of the right lengths, a number that has a place
+--   Sized, HasPlace, put-sized   parts of the right lengths, a number that has a place
 --   number-put, number-kept      the number that was put in; any other number
 use Prim.Native.Nat.{ℕ, zero, suc, _+_, _*_, _<_}
 use mathlib.Core.Path.{_≡_, refl, sym, _∙_, ap}
@@ -28,11 +28,11 @@ use Rattle.translator.specs.declared.nest.Nest.{Nest}
 
 -- ---- places
 
--- the number of a stride
+-- a stride as it is written
 abbrev pub strideNumber : Elements → ℕ
 strideNumber e = unsignedOf (e .0)
 
--- the numbers of an access
+-- the numbers of an access: its base, then its strides
 abbrev pub accessNumbers : Access → List ℕ
 accessNumbers a = natAbs (a .base .0) ∷ map strideNumber (a .strides)
 
@@ -54,17 +54,17 @@ accessPart second = 4
 accessPart destination = 5
 
 -- the part in which a number stands
-abbrev pub partOf : Field → ℕ
-partOf width = 0
-partOf loops = 0
-partOf coupled = 0
-partOf operation = 0
-partOf (count t) = 1
-partOf (term t o) = 2
-partOf (base a) = accessPart a
-partOf (stride a d) = accessPart a
+abbrev pub partNumber : Field → ℕ
+partNumber width = 0
+partNumber loops = 0
+partNumber coupled = 0
+partNumber operation = 0
+partNumber (count t) = 1
+partNumber (term t o) = 2
+partNumber (base a) = accessPart a
+partNumber (stride a d) = accessPart a
 
--- where it stands in it
+-- where a number stands in its part
 abbrev pub indexOf : Field → ℕ
 indexOf width = 0
 indexOf loops = 1
@@ -75,15 +75,15 @@ indexOf (term t o) = termPlace t o
 indexOf (base a) = 0
 indexOf (stride a d) = suc d
 
--- both as one number
+-- the place of a number: its part and where it stands there, as one number
 abbrev pub place : Field → ℕ
-place f = 64 * partOf f + indexOf f
+place f = 64 * partNumber f + indexOf f
 
--- what stands there
+-- the number that stands at the place of a field
 abbrev there : Nest → Field → ℕ
-there m f = getD (getD (partsOf m) (partOf f) []) (indexOf f) 0
+there m f = getD (getD (partsOf m) (partNumber f) []) (indexOf f) 0
 
--- the number that is in stands at its place
+-- the number in a field stands at its place
 pub number-there : (f : Field) (m : Nest) → there m f ≡ numberIn f m
 number-there width m = refl
 number-there loops m = refl
@@ -119,7 +119,7 @@ strides-put : (es : List Elements) (i n : ℕ) → map strideNumber (set es i (r
 strides-put es i n = map-set strideNumber es i (record { 0 = signedOf n }) ∙ ap (set (map strideNumber es) i) (unsigned-signed n)
 
 -- to put a number in changes what stands at its place, and nothing else
-pub put-parts : (f : Field) (n : ℕ) (m : Nest) (D : ℕ) → Holds (rangeOf D f) n → partsOf (put f n m) ≡ setIn (partsOf m) (partOf f) (indexOf f) n
+pub put-parts : (f : Field) (n : ℕ) (m : Nest) (D : ℕ) → Holds (rangeOf D f) n → partsOf (put f n m) ≡ setIn (partsOf m) (partNumber f) (indexOf f) n
 put-parts width n m D h = ap (λ k. set (partsOf m) 0 (set (getD (partsOf m) 0 []) 0 k)) (width-there n (omega (arith, h .1)))
 put-parts loops n m D h = refl
 put-parts coupled n m D h = refl
@@ -135,17 +135,17 @@ put-parts (stride destination d) n m D h = ap (λ l. set (partsOf m) 5 (natAbs (
 
 -- ---- lengths
 
--- the lengths of the parts
+-- the lengths of the six parts
 abbrev pub sizes : List ℕ
 sizes = 4 ∷ 7 ∷ 49 ∷ 8 ∷ 8 ∷ 8 ∷ []
 
--- parts of the right lengths
+-- a nest whose parts have the right lengths
 abbrev pub Sized : Nest → Type 0
 Sized m = (p : ℕ) → length (getD (partsOf m) p []) ≡ getD sizes p 0
 
--- a number that has a place
-abbrev pub Fits : Field → Type 0
-Fits f = indexOf f < getD sizes (partOf f) 0
+-- a field that has a place in its part
+abbrev pub HasPlace : Field → Type 0
+HasPlace f = indexOf f < getD sizes (partNumber f) 0
 
 -- every list stays as long as it was
 in-length : (l : List (List ℕ)) (p i n q : ℕ) → length (getD (setIn l p i n) q []) ≡ length (getD l q [])
@@ -169,23 +169,23 @@ in-other (x ∷ l) zero i n (suc q) j h = refl
 in-other (x ∷ l) (suc p) i n zero j h = refl
 in-other (x ∷ l) (suc p) i n (suc q) j h = in-other l p i n q j (λ e f. h (ap suc e) f)
 
--- lengths stay
+-- a number that is put in leaves the parts as long as they were
 pub put-sized : (f : Field) (n : ℕ) (m : Nest) (D : ℕ) → Holds (rangeOf D f) n → Sized m → Sized (put f n m)
 put-sized f n m D h s p =
-    ap (λ l. length (getD l p [])) (put-parts f n m D h) ∙ in-length (partsOf m) (partOf f) (indexOf f) n p ∙ s p
+    ap (λ l. length (getD l p [])) (put-parts f n m D h) ∙ in-length (partsOf m) (partNumber f) (indexOf f) n p ∙ s p
 
--- the number that was put in
-pub number-put : (f : Field) (n : ℕ) (m : Nest) (D : ℕ) → Holds (rangeOf D f) n → Sized m → Fits f → numberIn f (put f n m) ≡ n
+-- the number in a field is the one that was put in
+pub number-put : (f : Field) (n : ℕ) (m : Nest) (D : ℕ) → Holds (rangeOf D f) n → Sized m → HasPlace f → numberIn f (put f n m) ≡ n
 number-put f n m D h s u =
-    let l : indexOf f < length (getD (partsOf m) (partOf f) []) = omega (arith, s (partOf f)) in
+    let l : indexOf f < length (getD (partsOf m) (partNumber f) []) = omega (arith, s (partNumber f)) in
     sym (number-there f (put f n m))
-    ∙ ap (λ l. getD (getD l (partOf f) []) (indexOf f) 0) (put-parts f n m D h)
-    ∙ in-same (partsOf m) (partOf f) (indexOf f) n l
+    ∙ ap (λ l. getD (getD l (partNumber f) []) (indexOf f) 0) (put-parts f n m D h)
+    ∙ in-same (partsOf m) (partNumber f) (indexOf f) n l
 
--- any other number
+-- a number that is put in leaves every other as it was
 pub number-kept : (f g : Field) (n : ℕ) (m : Nest) (D : ℕ) → Holds (rangeOf D f) n → (place f ≡ place g → ⊥) → numberIn g (put f n m) ≡ numberIn g m
 number-kept f g n m D h u =
     sym (number-there g (put f n m))
-    ∙ ap (λ l. getD (getD l (partOf g) []) (indexOf g) 0) (put-parts f n m D h)
-    ∙ in-other (partsOf m) (partOf f) (indexOf f) n (partOf g) (indexOf g) (λ e i. u (λ j. 64 * e j + i j))
+    ∙ ap (λ l. getD (getD l (partNumber g) []) (indexOf g) 0) (put-parts f n m D h)
+    ∙ in-other (partsOf m) (partNumber f) (indexOf f) n (partNumber g) (indexOf g) (λ e i. u (λ j. 64 * e j + i j))
     ∙ number-there g m

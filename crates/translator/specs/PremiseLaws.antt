@@ -3,7 +3,7 @@
 --   every-each, pairs-ordered, bytes-tested   tests over a list
 --   premises-tested, ready        a nest that passes the tests
 --   pos-le, lies-at               an element inside, by its numbers
---   parted                        a nest whose sources lie below its destination
+--   parted-at, parted             a visit whose sources lie below its destination, by its numbers; a nest of such visits
 use Prim.Native.Nat.{ℕ, zero, suc, _+_, _≤_}
 use mathlib.Core.Path.{_≡_, refl}
 use mathlib.Core.Logic.{inl, inr, ⊎-elim}
@@ -125,6 +125,12 @@ pos-le {a} {b} h = leZ-yes (le→leb a b h)
 -- an element inside, by its numbers
 pub lies-at : {len width n : ℕ} → n + width ≤ len → Lies len width (pos n)
 lies-at h = record { least = pos-le (omega arith); most = pos-le h }
+
+-- a visit at which both sources lie below `low` and the destination from there on, by their numbers
+pub parted-at : {m : Nest} {low len : ℕ} {v : List ℕ} (a b d : ℕ) → placeOf m (m .first) v ≡ pos a → placeOf m (m .second) v ≡ pos b
+    → placeOf m (m .destination) v ≡ pos d → a + widthOf m ≤ low → b + widthOf m ≤ low → low ≤ d → d + widthOf m ≤ len → Parted m low len v
+parted-at a b d e f g h k l q =
+    record { first = rw e (lies-at h); second = rw f (lies-at k); least = rw g (pos-le l); most = rw g (pos-le q) }
 
 -- at or above 0
 least-zero : (low : ℕ) (a : ℤ) → pos low ≤ℤ a → pos 0 ≤ℤ a

@@ -25,12 +25,12 @@ use Rattle.translator.specs.declared.nest.Nest.{Nest}
 
 -- ---- tests
 
--- of each
+-- a test holds of every member of a list
 unfoldable pub every : {A : Type 0} → (A → Bool) → List A → Bool
 every p [] = true
 every p (x ∷ l) = p x && every p l
 
--- of each and every later one
+-- a test holds of every two members of a list, the earlier first
 unfoldable pub everyPair : {A : Type 0} → (A → A → Bool) → List A → Bool
 everyPair p [] = true
 everyPair p (x ∷ l) = every (p x) l && everyPair p l
@@ -43,20 +43,20 @@ lies len width a = leZ (pos 0) a && leZ (a +ℤ pos width) (pos len)
 abbrev pub clear : ℕ → ℤ → ℤ → Bool
 clear width a b = leZ (a +ℤ pos width) b || leZ (b +ℤ pos width) a
 
--- the elements of a visit lie inside
+-- the elements of visit v lie inside a memory of len bytes
 abbrev pub insideTest : Nest → ℕ → List ℕ → Bool
 insideTest m len v =
     lies len (widthOf m) (placeOf m (m .first) v)
     && lies len (widthOf m) (placeOf m (m .second) v)
     && lies len (widthOf m) (placeOf m (m .destination) v)
 
--- v reads no byte that u writes
+-- visit v reads no byte that visit u writes
 abbrev pub apartTest : Nest → List ℕ → List ℕ → Bool
 apartTest m u v =
     clear (widthOf m) (placeOf m (m .destination) u) (placeOf m (m .first) v)
     && clear (widthOf m) (placeOf m (m .destination) u) (placeOf m (m .second) v)
 
--- both premises
+-- both premises of a nest, in a memory of len bytes
 abbrev pub premisesTest : Nest → ℕ → Bool
 premisesTest m len = every (insideTest m len) (visits m) && everyPair (apartTest m) (visits m)
 
@@ -71,12 +71,12 @@ pub record Parted (m : Nest) (low len : ℕ) (v : List ℕ) : Type 0 where
 
 -- ---- what they show
 
--- the premises of a nest, in a memory of len bytes
+-- both premises of promise 3 hold of a nest, in a memory of len bytes
 pub record Premises (m : Nest) (len : ℕ) : Type 0 where
   pub inside : AllInside m len
   pub apart : NoneRead m (visits m)
 
--- bytes that are a nest, with its premises
+-- bytes that are a nest of which both premises hold
 pub record Ready (s : List ℕ) (m : Nest) (len : ℕ) : Type 0 where
   pub bytes : areBytes s
   pub read : nestAt s ≡ nest m

@@ -39,7 +39,7 @@ pub record Inside (m : Nest) (len : ℕ) (v : List ℕ) : Type 0 where
   pub second : Lies len (widthOf m) (placeOf m (m .second) v)
   pub destination : Lies len (widthOf m) (placeOf m (m .destination) v)
 
--- visit k, in order
+-- visit k of a nest, the first being visit 0
 abbrev pub visit : Nest → ℕ → List ℕ
 visit m k = getD (visits m) k []
 
@@ -62,11 +62,11 @@ Writes m v x = Byte (widthOf m) (placeOf m (m .destination) v) x
 abbrev pub Reads : Nest → List ℕ → ℕ → Type 0
 Reads m v x = Byte (widthOf m) (placeOf m (m .first) v) x ⊎ Byte (widthOf m) (placeOf m (m .second) v) x
 
--- v reads no byte that u writes
+-- visit v reads no byte that visit u writes
 abbrev pub Apart : Nest → List ℕ → List ℕ → Type 0
 Apart m u v = (x : ℕ) → Writes m u x → Reads m v x → ⊥
 
--- of these visits, none reads what an earlier one wrote
+-- of a list of visits, none reads a byte that an earlier one wrote
 abbrev pub NoneRead : Nest → List (List ℕ) → Type 0
 NoneRead m vs = (i j : ℕ) → i < j → j < length vs → Apart m (getD vs i []) (getD vs j [])
 
@@ -75,7 +75,7 @@ unfoldable pub Chunks : Nest → ℕ → ℕ → List (List (List ℕ)) → Type
 Chunks m lanes n [] = n ≡ length (visits m)
 Chunks m lanes n (vs ∷ gs) = (vs ≡ chunkOf (visitGroups m) lanes n) × (1 ≤ length vs) × Chunks m lanes (n + length vs) gs
 
--- the weaker premise: none reads what an earlier one of the same chunk wrote
+-- the weaker premise: no visit reads a byte that an earlier one of the same chunk wrote
 abbrev pub NoneReadInChunk : Nest → ℕ → Type 0
 NoneReadInChunk m lanes =
     (gs : List (List (List ℕ))) → Chunks m lanes 0 gs → (g : ℕ) → g < length gs → NoneRead m (getD gs g [])

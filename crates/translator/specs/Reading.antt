@@ -24,7 +24,7 @@ use Rattle.translator.specs.declared.nest.Nest.{Nest}
 
 -- ---- reading
 
--- numbers read, with the place behind them, or a refusal and its place
+-- a nest into which numbers were read, with the place behind them, or a refusal and its place
 pub data Read : Type 0 where
   upTo : Nest → ℕ → Read
   refused : Refusal → ℕ → Read
@@ -35,7 +35,7 @@ unfoldable pub readFrom : List ℕ → List Field → ℕ → Nest → Read
 readFrom s [] at m = upTo m at
 readFrom s (f ∷ fs) at m = field (λ x. refused x at) (numberAt s at) (holds (rangeOf (m .loops) f)) λ n to. readFrom s fs to (put f n m)
 
--- what follows, unless refused
+-- what follows on numbers that were read; a refusal stays
 abbrev pub onRead : {A : Type 0} → (Refusal → ℕ → A) → Read → (Nest → ℕ → A) → A
 onRead refuse (upTo m at) next = next m at
 onRead refuse (refused x at) next = refuse x at
@@ -61,18 +61,18 @@ nestAt s =
     onRead refused (readFrom s (restFields (m .loops)) at m) λ m at.
     wholeAt s m at
 
--- a verdict and a nest beside it, as the code keeps them
+-- a nest, or its refusal, from a verdict with a nest beside it, as the code keeps them
 abbrev pub nestedOf : Verdict → Nest → Nested
 nestedOf Done m = nest m
 nestedOf (Refused x at) m = refused x at
 
 -- ---- writing
 
--- the numbers of these fields, one after the other
+-- the numbers of a nest's fields as bytes, one after the other
 unfoldable pub numbersBytes : Nest → List Field → List ℕ
 numbersBytes m [] = []
 numbersBytes m (f ∷ fs) = numberBytes (numberIn f m) ++ numbersBytes m fs
 
--- a nest's bytes
+-- a nest's bytes: all its numbers, in order
 unfoldable pub nestBytes : Nest → List ℕ
 nestBytes m = numbersBytes m (fieldsOf (m .loops))

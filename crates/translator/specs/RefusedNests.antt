@@ -1,5 +1,7 @@
 -- Bytes that are no accepted nest: the refusals and their places, computed from the definitions.
 --
+--   Judged, judged         what bytes are judged to be
+--   oneWith, twoWith, fiveWith   nests of one, two and five loops
 --   cutOff, outOfRange     1 and 2
 --   rules                  6, 8 and 9
 use Prim.Native.Nat.{ℕ}
@@ -7,24 +9,23 @@ use mathlib.Core.Path.{_≡_, refl}
 use mathlib.Core.List.{List, [], _∷_, _++_}
 use lib.ListN.{take, replicate}
 use Rattle.codec.specs.Refusals.{numberOf}
-use Rattle.codec.specs.Numbers.{groupsAt, numberAt, signedOf}
-use Rattle.engine.specs.Rules.{product}
-use Rattle.engine.specs.Checks.{firstOf}
-use Rattle.translator.specs.Fields.{termFields, loopFields, strideFields}
-use Rattle.translator.specs.NestRules.{nonzeroFor, nonzeroFrom, total, highsFrom, lowOrHighFrom}
 use Rattle.translator.specs.Reading.{Nested, nest, refused, nestAt}
-use Rattle.translator.specs.Reading
-use Rattle.translator.specs.Examples.{oneBytes}
+use Rattle.translator.specs.Examples.{oneBytes, nestIn}
 
 -- a nest that is accepted, or refused: the number and the place
-pub data Heard : Type 0 where
-  accepted : Heard
-  no : ℕ → ℕ → Heard
+pub data Judged : Type 0 where
+  accepted : Judged
+  refusedWith : ℕ → ℕ → Judged
 
--- what is heard of bytes as a nest: accepted, or the refusal's number and place
-unfoldable pub heard : Nested → Heard
-heard (nest m) = accepted
-heard (refused x at) = no (numberOf x) at
+-- a nest that was read is accepted; a refusal has its number and its place
+abbrev judgedAs : Nested → Judged
+judgedAs (nest m) = accepted
+judgedAs (refused x at) = refusedWith (numberOf x) at
+
+-- what bytes are judged to be: an accepted nest, or the refusal's number and place
+unfoldable pub judged : List ℕ → Judged
+unfolding nestIn
+judged s = judgedAs (nestAt s)
 
 -- a nest of one loop: its head, its count, then its accesses
 unfoldable pub oneWith : List ℕ → List ℕ → List ℕ
@@ -42,50 +43,47 @@ fiveWith last term =
 
 -- numbers that are cut off, the last of them with no byte at all; not shortest
 pub cutOff :
-    (heard (nestAt []) ≡ no 1 0)
-    × (heard (nestAt (take 4 oneBytes)) ≡ no 1 4)
-    × (heard (nestAt (take 10 oneBytes)) ≡ no 1 10)
-    × (heard (nestAt (oneWith (0x00 ∷ 0x01 ∷ 0x00 ∷ 0x01 ∷ []) (0x83 ∷ 0x00 ∷ []))) ≡ no 1 4)
-    × (heard (nestAt (take 10 oneBytes ++ (0x82 ∷ []))) ≡ no 1 10)
-unfolding numberAt groupsAt signedOf termFields loopFields strideFields Reading.readFrom nestAt
-    nonzeroFor nonzeroFrom total highsFrom lowOrHighFrom product firstOf oneBytes oneWith heard
+    (judged [] ≡ refusedWith 1 0)
+    × (judged (take 4 oneBytes) ≡ refusedWith 1 4)
+    × (judged (take 10 oneBytes) ≡ refusedWith 1 10)
+    × (judged (oneWith (0x00 ∷ 0x01 ∷ 0x00 ∷ 0x01 ∷ []) (0x83 ∷ 0x00 ∷ [])) ≡ refusedWith 1 4)
+    × (judged (take 10 oneBytes ++ (0x82 ∷ [])) ≡ refusedWith 1 10)
+unfolding judged oneBytes oneWith
 cutOff = (refl, refl, refl, refl, refl)
 
 -- width code 4; loops 0 and 8; coupled above D; operation 0 and 8; a count above 4,096; a base above 1,048,576; a stride above
 -- 1,048,576 and one below -1,048,576; a byte too many, a bad number too
 pub outOfRange :
-    (heard (nestAt (oneWith (0x03 ∷ 0x01 ∷ 0x01 ∷ 0x07 ∷ []) (0x80 ∷ 0x20 ∷ []))) ≡ accepted)
-    × (heard (nestAt (oneWith (0x04 ∷ 0x01 ∷ 0x00 ∷ 0x01 ∷ []) (0x03 ∷ []))) ≡ no 2 0)
-    × (heard (nestAt (oneWith (0x00 ∷ 0x00 ∷ 0x00 ∷ 0x01 ∷ []) (0x03 ∷ []))) ≡ no 2 1)
-    × (heard (nestAt (oneWith (0x00 ∷ 0x08 ∷ 0x00 ∷ 0x01 ∷ []) (0x03 ∷ []))) ≡ no 2 1)
-    × (heard (nestAt (oneWith (0x00 ∷ 0x01 ∷ 0x02 ∷ 0x01 ∷ []) (0x03 ∷ []))) ≡ no 2 2)
-    × (heard (nestAt (oneWith (0x00 ∷ 0x01 ∷ 0x00 ∷ 0x00 ∷ []) (0x03 ∷ []))) ≡ no 2 3)
-    × (heard (nestAt (oneWith (0x00 ∷ 0x01 ∷ 0x00 ∷ 0x08 ∷ []) (0x03 ∷ []))) ≡ no 2 3)
-    × (heard (nestAt (oneWith (0x00 ∷ 0x01 ∷ 0x00 ∷ 0x01 ∷ []) (0x81 ∷ 0x20 ∷ []))) ≡ no 2 4)
-    × (heard (nestAt (take 5 oneBytes ++ (0x81 ∷ 0x80 ∷ 0x40 ∷ []))) ≡ no 2 5)
-    × (heard (nestAt (take 6 oneBytes ++ (0x82 ∷ 0x80 ∷ 0x80 ∷ 0x01 ∷ []))) ≡ no 2 6)
-    × (heard (nestAt (take 6 oneBytes ++ (0x81 ∷ 0x80 ∷ 0x80 ∷ 0x01 ∷ []))) ≡ no 2 6)
-    × (heard (nestAt (take 6 oneBytes ++ (0x80 ∷ 0x80 ∷ 0x80 ∷ 0x01 ∷ []))) ≡ no 1 10)
-    × (heard (nestAt (oneBytes ++ (0x00 ∷ []))) ≡ no 2 11)
-    × (heard (nestAt (oneBytes ++ (0x80 ∷ []))) ≡ no 2 11)
-unfolding numberAt groupsAt signedOf termFields loopFields strideFields Reading.readFrom nestAt
-    nonzeroFor nonzeroFrom total highsFrom lowOrHighFrom product firstOf oneBytes oneWith heard
+    (judged (oneWith (0x03 ∷ 0x01 ∷ 0x01 ∷ 0x07 ∷ []) (0x80 ∷ 0x20 ∷ [])) ≡ accepted)
+    × (judged (oneWith (0x04 ∷ 0x01 ∷ 0x00 ∷ 0x01 ∷ []) (0x03 ∷ [])) ≡ refusedWith 2 0)
+    × (judged (oneWith (0x00 ∷ 0x00 ∷ 0x00 ∷ 0x01 ∷ []) (0x03 ∷ [])) ≡ refusedWith 2 1)
+    × (judged (oneWith (0x00 ∷ 0x08 ∷ 0x00 ∷ 0x01 ∷ []) (0x03 ∷ [])) ≡ refusedWith 2 1)
+    × (judged (oneWith (0x00 ∷ 0x01 ∷ 0x02 ∷ 0x01 ∷ []) (0x03 ∷ [])) ≡ refusedWith 2 2)
+    × (judged (oneWith (0x00 ∷ 0x01 ∷ 0x00 ∷ 0x00 ∷ []) (0x03 ∷ [])) ≡ refusedWith 2 3)
+    × (judged (oneWith (0x00 ∷ 0x01 ∷ 0x00 ∷ 0x08 ∷ []) (0x03 ∷ [])) ≡ refusedWith 2 3)
+    × (judged (oneWith (0x00 ∷ 0x01 ∷ 0x00 ∷ 0x01 ∷ []) (0x81 ∷ 0x20 ∷ [])) ≡ refusedWith 2 4)
+    × (judged (take 5 oneBytes ++ (0x81 ∷ 0x80 ∷ 0x40 ∷ [])) ≡ refusedWith 2 5)
+    × (judged (take 6 oneBytes ++ (0x82 ∷ 0x80 ∷ 0x80 ∷ 0x01 ∷ [])) ≡ refusedWith 2 6)
+    × (judged (take 6 oneBytes ++ (0x81 ∷ 0x80 ∷ 0x80 ∷ 0x01 ∷ [])) ≡ refusedWith 2 6)
+    × (judged (take 6 oneBytes ++ (0x80 ∷ 0x80 ∷ 0x80 ∷ 0x01 ∷ [])) ≡ refusedWith 1 10)
+    × (judged (oneBytes ++ (0x00 ∷ [])) ≡ refusedWith 2 11)
+    × (judged (oneBytes ++ (0x80 ∷ [])) ≡ refusedWith 2 11)
+unfolding judged oneBytes oneWith
 outOfRange = (refl, refl, refl, refl, refl, refl, refl, refl, refl, refl, refl, refl, refl, refl)
 
 -- eight nonzero terms, nine; 4 less 1 for each of five rows, of six; 4,096 and one more in the second row; 1,024 x 1,024, 1,024 x 1,025;
 -- nine terms and a byte too many; both 8 and 9
 pub rules :
-    (heard (nestAt (fiveWith 0 0)) ≡ accepted)
-    × (heard (nestAt (fiveWith 2 0)) ≡ no 6 0)
-    × (heard (nestAt (fiveWith 2 2)) ≡ no 6 0)
-    × (heard (nestAt (fiveWith 2 2 ++ (0x00 ∷ []))) ≡ no 2 37)
-    × (heard (nestAt (twoWith (0x04 ∷ []) (0x01 ∷ []) (0x05 ∷ []))) ≡ accepted)
-    × (heard (nestAt (twoWith (0x04 ∷ []) (0x01 ∷ []) (0x06 ∷ []))) ≡ no 8 0)
-    × (heard (nestAt (twoWith (0x80 ∷ 0x20 ∷ []) (0x02 ∷ []) (0x01 ∷ []))) ≡ accepted)
-    × (heard (nestAt (twoWith (0x80 ∷ 0x20 ∷ []) (0x02 ∷ []) (0x02 ∷ []))) ≡ no 8 0)
-    × (heard (nestAt (twoWith (0x80 ∷ 0x08 ∷ []) (0x00 ∷ []) (0x80 ∷ 0x08 ∷ []))) ≡ accepted)
-    × (heard (nestAt (twoWith (0x80 ∷ 0x08 ∷ []) (0x00 ∷ []) (0x81 ∷ 0x08 ∷ []))) ≡ no 9 0)
-    × (heard (nestAt (twoWith (0x80 ∷ 0x08 ∷ []) (0x01 ∷ []) (0x80 ∷ 0x20 ∷ []))) ≡ no 8 0)
-unfolding numberAt groupsAt signedOf termFields loopFields strideFields Reading.readFrom nestAt
-    nonzeroFor nonzeroFrom total highsFrom lowOrHighFrom product firstOf oneBytes twoWith fiveWith heard
+    (judged (fiveWith 0 0) ≡ accepted)
+    × (judged (fiveWith 2 0) ≡ refusedWith 6 0)
+    × (judged (fiveWith 2 2) ≡ refusedWith 6 0)
+    × (judged (fiveWith 2 2 ++ (0x00 ∷ [])) ≡ refusedWith 2 37)
+    × (judged (twoWith (0x04 ∷ []) (0x01 ∷ []) (0x05 ∷ [])) ≡ accepted)
+    × (judged (twoWith (0x04 ∷ []) (0x01 ∷ []) (0x06 ∷ [])) ≡ refusedWith 8 0)
+    × (judged (twoWith (0x80 ∷ 0x20 ∷ []) (0x02 ∷ []) (0x01 ∷ [])) ≡ accepted)
+    × (judged (twoWith (0x80 ∷ 0x20 ∷ []) (0x02 ∷ []) (0x02 ∷ [])) ≡ refusedWith 8 0)
+    × (judged (twoWith (0x80 ∷ 0x08 ∷ []) (0x00 ∷ []) (0x80 ∷ 0x08 ∷ [])) ≡ accepted)
+    × (judged (twoWith (0x80 ∷ 0x08 ∷ []) (0x00 ∷ []) (0x81 ∷ 0x08 ∷ [])) ≡ refusedWith 9 0)
+    × (judged (twoWith (0x80 ∷ 0x08 ∷ []) (0x01 ∷ []) (0x80 ∷ 0x20 ∷ [])) ≡ refusedWith 8 0)
+unfolding judged twoWith fiveWith
 rules = (refl, refl, refl, refl, refl, refl, refl, refl, refl, refl, refl)

@@ -50,7 +50,7 @@ with-based destination first x m h k = k
 with-based destination second x m h k = k
 with-based destination destination x m h k = h
 
--- they stay so
+-- bases stay 0 or more when a number is put in
 pub put-based : (f : Field) (n : ℕ) (m : Nest) → ((a : Role) → Based (accessOf a m)) → (a : Role) → Based (accessOf a (put f n m))
 put-based width n m h a = rw (access-kept a (widthCoded n) (m .loops) (m .coupled) (m .action) (m .counts) (m .terms) m) (h a)
 put-based loops n m h a = rw (access-kept a (m .width) n (m .coupled) (m .action) (m .counts) (m .terms) m) (h a)
@@ -81,13 +81,13 @@ access-same x y b c l k e h = λ i. record { base = record { 0 = base-same i }; 
         ext-getD noElements (x .strides) (y .strides) (l ∙ sym k)
         (λ d u. λ i. record { 0 = signed-same (getD (x .strides) d noElements .0) (getD (y .strides) d noElements .0) (h d (omega arith)) i })
 
--- the lengths of a nest's lists
+-- a nest whose lists have the right lengths
 pub record Long (m : Nest) : Type 0 where
   pub counts : length (m .counts) ≡ 7
   pub terms : length (m .terms) ≡ 49
   pub strides : (a : Role) → length (accessOf a m .strides) ≡ 7
 
--- a number for loops among the seven
+-- a field for loops among the seven
 abbrev pub Proper : Field → Type 0
 Proper width = Unit {0}
 Proper loops = Unit {0}

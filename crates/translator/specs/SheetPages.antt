@@ -1,9 +1,9 @@
 -- A page with the sheet of an accepted nest holds the sheet's bytes, and the place behind them is their number.
 --
---   sets-then                      bytes stored one behind the other
 --   Writable                       operations that can all be written
 --   page-then, last-on             where there is room for them, they stand on the page
 --   sheet-writable                 the operations of a nest in range can all be written
+--   AtFront                        bytes at the front of a page, and nothing behind them
 --   sheet-page                     the page of an accepted nest
 use Prim.Native.Nat.{ℕ, zero, suc, _+_, _≤_, _<_}
 use mathlib.Core.Path.{_≡_, refl, _∙_, ap}
@@ -11,7 +11,7 @@ use mathlib.Core.List.{List, [], _∷_, _++_, map, append-assoc, append-nil}
 use mathlib.Core.Bool.{Bool, true, false, cond, _&&_}
 use native.Mathlib.Omega.{arith}
 use native.Mathlib.Nat.{add-zero}
-use lib.ListN.{length, getD, take, set, length-append}
+use lib.ListN.{length, getD, take, length-append}
 use lib.Seq.{sets, sets-eq, length-sets, take-append-seam}
 use lib.Dec.{eqb, leb}
 use lib.IntN.{ℤ, pos, negsuc, natAbs}
@@ -28,6 +28,7 @@ use Rattle.codec.specs.declared.operation.Operation.the-variants as op
 use Rattle.codec.specs.declared.operation.Calculation.{Calculation}
 use Rattle.engine.specs.Addresses.{noElements}
 use Rattle.engine.specs.AllowedLaws.{test-plain}
+use Rattle.engine.proofs.ByteSteps.{sets-append}
 use Rattle.translator.specs.Fields.{termOf}
 use Rattle.translator.specs.Nests.{couplingOf}
 use Rattle.translator.specs.NestSheets.{modifierOf, modifiersAt, modifierOp, dimensionOf, dimensionOps, streamOps, sheetOps, runOp, calculationOf, sheetOf}
@@ -40,18 +41,11 @@ use Rattle.translator.specs.declared.write.Page.{Page}
 
 -- ---- onto a page
 
--- bytes stored one behind the other
-pub sets-then : (a b l : List ℕ) (i : ℕ) → sets l i (a ++ b) ≡ sets (sets l i a) (i + length a) b
-sets-then [] b l i = rw (add-zero i)
-sets-then (x ∷ a) b l i =
-    let e : suc i + length a ≡ i + suc (length a) = omega arith in
-    sets-then a b (set l i x) (suc i) ∙ rw e
-
--- bytes on a page
+-- a page with bytes more, at its place
 abbrev onPage : List ℕ → Page → Page
 onPage bytes p = record { bytes = sets (p .bytes) (p .at) bytes; at = p .at + length bytes }
 
--- there is room for so many
+-- a page has room for n bytes more
 abbrev Room : ℕ → Page → Type 0
 Room n p = p .at + n ≤ length (p .bytes)
 
@@ -74,7 +68,7 @@ Writable (o ∷ os) = (operationInRange o ≡ true) × Writable os
 then-on : (a b : List ℕ) (p : Page) → onPage b (onPage a p) ≡ onPage (a ++ b) p
 then-on a b p =
     let e : p .at + length a + length b ≡ p .at + (length a + length b) = omega arith in
-    rw (sets-then a b (p .bytes) (p .at), length-append a b, e)
+    rw (sets-append (p .bytes) (p .at) a b, length-append a b, e)
 
 -- operations that can all be written, and for which there is room, stand on the page
 page-then : (os : List Operation) (p : Page) → Writable os → Room (length (bytesOfAll os)) p → putAll os p ≡ onPage (bytesOfAll os) p
@@ -167,14 +161,14 @@ sheet-writable m r =
 
 -- ---- the page
 
--- the bytes stand at the front of a page, and the place behind them is their number
-pub record Holds (p : Page) (bytes : List ℕ) : Type 0 where
+-- bytes that stand at the front of a page, the place behind them being their number
+pub record AtFront (p : Page) (bytes : List ℕ) : Type 0 where
   pub behind : p .at ≡ length bytes
   pub front : take (length bytes) (p .bytes) ≡ bytes
   pub fits : length bytes ≤ 1024
 
 -- bytes on a blank page
-blank-on : (b : Page) (bytes : List ℕ) → Blank b → length bytes ≤ 1024 → Holds (onPage bytes b) bytes
+blank-on : (b : Page) (bytes : List ℕ) → Blank b → length bytes ≤ 1024 → AtFront (onPage bytes b) bytes
 blank-on b bytes e h = record {
   behind = rw (e .start) (omega arith);
   front = rw (e .start, sets-eq bytes (b .bytes) 0 (omega (arith, e .long))) (take-append-seam bytes _);
@@ -219,5 +213,5 @@ module _ (m : Nest) (p : Page) (a : Accepted m) (s : SheetPage m p) where
       ∙ ap (λ l. onPage l b) sheet-is
 
   -- it holds the sheet's bytes
-  pub sheet-page : Holds p (sheetOf m)
+  pub sheet-page : AtFront p (sheetOf m)
   sheet-page = rw sheet-on (blank-on (s .blank) (sheetOf m) (s .empty) (omega (arith, sheet-most m (a .range .loops-most) (a .few))))

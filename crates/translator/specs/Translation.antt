@@ -47,25 +47,25 @@ pub record Outcome : Type 0 where
   pub stage : Stage
   pub progress : Progress
 
--- a refusal before any register was used
+-- a refusal before any register was used: 32 fresh ones, the memory as it was, both counts 0
 abbrev pub unrun : Stage → List ℕ → Refusal → ℕ → Outcome
 unrun g memory x at = record { stage = g; progress = refusedAt (record { machine = freshMachine; memory = memory }) x at }
 
--- the same, as the code answers it
+-- the code's answer of a refusal before any register was used
 abbrev pub refusedAnswer : Refusal → ℕ → Answer
 refusedAnswer x at = record { verdict = Refused x at; report = record { passes = 0; calculations = 0 }; machine = freshMachine }
 
--- the refusals of the nest, then the run of its sheet
+-- a nest's refusal, or the run of its sheet
 abbrev pub runNested : ℕ → Nested → List ℕ → Outcome
 runNested vl (refused x at) memory = unrun stage.Nest memory x at
 runNested vl (nest m) memory = record { stage = stage.Sheet; progress = run vl (sheetOf m) memory }
 
--- "15 comes first"
+-- "15 comes first"; then the refusals of bytes as a nest, then the run of its sheet
 unfoldable pub runNest : ℕ → List ℕ → List ℕ → Outcome
 runNest vl s memory =
     cond (allowed vl (length memory)) (runNested vl (nestAt s) memory) (unrun stage.Lengths memory reason.Lengths 0)
 
--- an answer of the code, and the memory with it
+-- an answer of the code with the memory after it, as an outcome
 abbrev pub outcomeOf : NestAnswer → List ℕ → Outcome
 outcomeOf r memory = record { stage = r .stage; progress = progressOf (r .answer) memory }
 

@@ -7,9 +7,9 @@ use codec::header::Width;
 use codec::operation::Action;
 ghost use Prim.Native.Nat.{_<_, _≤_};
 ghost use mathlib.Core.Path.{_≡_};
-ghost use Rattle.translator.specs.Fields.{noAccess, noNest, nestOf, withAccess, first, second, destination, withBase, withStride, put, count};
-ghost use Rattle.translator.specs.Parts.{withTerm};
+ghost use Rattle.translator.specs.Fields.{noAccess, noNest, nestOf, withAccess, first, second, destination, withBase, withStride, withTerm, put, count};
 
+// An access with no number yet.
 fn no_access() -> Access
     ensures { λ r. ⌜ r ≡ noAccess ⌝ }
 {
@@ -19,7 +19,7 @@ fn no_access() -> Access
     }
 }
 
-// No number yet but the first four.
+// A nest with no number yet but the first four.
 pub(crate) fn begun(width: Width, loops: usize, coupled: u64, action: Action) -> Nest
     ensures { λ r. ⌜ r ≡ nestOf width loops coupled action (noNest .counts) (noNest .terms) noAccess noAccess noAccess ⌝ }
 {
@@ -37,6 +37,7 @@ pub(crate) fn begun(width: Width, loops: usize, coupled: u64, action: Action) ->
     }
 }
 
+// The access with a base put in.
 pub(crate) fn with_base(a: Access, n: u64) -> Access
     requires { ⌜ n ≤ 1048576 ⌝ }
     ensures { λ r. ⌜ r ≡ withBase n a ⌝ }
@@ -48,6 +49,7 @@ pub(crate) fn with_base(a: Access, n: u64) -> Access
     }
 }
 
+// The access with a stride for loop `d` put in.
 pub(crate) fn with_stride(a: Access, d: usize, stride: Elements) -> Access
     requires { ⌜ d < 7 ⌝ }
     ensures { λ r. ⌜ r ≡ withStride d (stride .0) a ⌝ }
@@ -58,6 +60,7 @@ pub(crate) fn with_stride(a: Access, d: usize, stride: Elements) -> Access
     Access { base, strides }
 }
 
+// The nest with the count of loop `t` put in.
 pub(crate) fn with_count(m: Nest, t: usize, n: u64) -> Nest
     requires { ⌜ t < 7 ⌝ }
     ensures { λ r. ⌜ r ≡ put (count t) n m ⌝ }
@@ -83,6 +86,7 @@ pub(crate) fn with_count(m: Nest, t: usize, n: u64) -> Nest
     }
 }
 
+// The nest with the term of loop `t` for loop `o` put in.
 pub(crate) fn with_term(m: Nest, t: usize, o: usize, z: i64) -> Nest
     requires { ⌜ (t < 7) × (o < 7) ⌝ }
     ensures { λ r. ⌜ r ≡ withTerm t o z m ⌝ }
@@ -108,6 +112,7 @@ pub(crate) fn with_term(m: Nest, t: usize, o: usize, z: i64) -> Nest
     }
 }
 
+// The nest with first source, second source and destination put in.
 pub(crate) fn with_accesses(m: Nest, a: Access, b: Access, d: Access) -> Nest
     ensures { λ r. ⌜ r ≡ withAccess destination d (withAccess second b (withAccess first a m)) ⌝ }
 {

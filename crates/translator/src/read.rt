@@ -34,7 +34,7 @@ struct Part {
     cursor: Cursor,
 }
 
-// The same for the numbers of an access.
+// Some numbers of an access that were read, with the place behind them, or why not.
 struct Side {
     verdict: Verdict,
     access: Access,
@@ -62,7 +62,7 @@ fn no_head(refusal: Refusal, cursor: Cursor) -> Part
     }
 }
 
-// A refusal at a place.
+// A refusal at a place, behind the first four numbers.
 fn stopped(nest: Nest, refusal: Refusal, cursor: Cursor) -> Part
     ensures { λ r. ⌜ r .verdict ≡ verdict.Refused refusal (cursor .at) ⌝ }
 {
@@ -74,7 +74,7 @@ fn stopped(nest: Nest, refusal: Refusal, cursor: Cursor) -> Part
     }
 }
 
-// The same in an access.
+// A refusal at a place, in an access.
 fn stopped_side(access: Access, refusal: Refusal, cursor: Cursor) -> Side
     ensures { λ r. ⌜ r .verdict ≡ verdict.Refused refusal (cursor .at) ⌝ }
 {

@@ -75,6 +75,7 @@ pub(crate) fn modifier_of(m: Nest, o: usize, t: usize) -> Modifier
     }
 }
 
+// No modifier kept.
 fn none_kept() -> Kept
     ensures { λ r. ⌜ r ≡ noneKept ⌝ }
 {
@@ -91,7 +92,7 @@ fn none_kept() -> Kept
     }
 }
 
-// One modifier more.
+// With one modifier more kept.
 fn keep(k: Kept, q: Modifier) -> Kept
     ensures { λ r. ⌜ r ≡ keepOne q k ⌝ }
 {
@@ -110,7 +111,7 @@ fn keep(k: Kept, q: Modifier) -> Kept
     }
 }
 
-// That of one term, if it is not 0.
+// With the modifier of one term kept, if the term is not 0.
 fn keep_term(k: Kept, m: Nest, o: usize, t: usize) -> Kept
     requires { ⌜ (o < 7) × (t < 7) ⌝ }
     ensures { λ r. ⌜ r ≡ cond (eqb (natAbs (termOf m t o)) 0) k (keepOne (modifierOf m o t) k) ⌝ }
@@ -122,7 +123,7 @@ fn keep_term(k: Kept, m: Nest, o: usize, t: usize) -> Kept
     keep(k, q)
 }
 
-// Those that the dimension of loop `o` owns.
+// With the modifiers kept that the dimension of loop `o` owns.
 fn keep_terms(k: Kept, m: Nest, o: usize) -> Kept
     requires { ⌜ o < 7 ⌝ }
     ensures { λ r. ⌜ r ≡ keepAll (modifiersAt m o 0 o) k ⌝ }
@@ -136,7 +137,7 @@ fn keep_terms(k: Kept, m: Nest, o: usize) -> Kept
     kept
 }
 
-// All of them.
+// All modifiers of a nest, kept.
 fn keep_all(m: Nest) -> Kept
     requires { ⌜ m .loops ≤ 7 ⌝ }
     ensures { λ r. ⌜ r ≡ keepAll (modifiersOf m) noneKept ⌝ }

@@ -31,6 +31,7 @@ pub(crate) struct Page {
     pub(crate) at: usize,
 }
 
+// A page on which nothing is written.
 fn blank() -> Page
     ensures { λ r. ⌜ Blank r ⌝ }
 {
@@ -51,7 +52,7 @@ fn place_after(w: Written, at: usize) -> usize
     }
 }
 
-// One operation more.
+// A page with one operation more.
 fn put(p: Page, o: Operation) -> Page
     ensures { λ r. ⌜ r ≡ putOne o p ⌝ }
 {
@@ -62,7 +63,7 @@ fn put(p: Page, o: Operation) -> Page
     Page { bytes, at: behind }
 }
 
-// One calculation more.
+// A page with one calculation more.
 fn put_last(p: Page, c: Calculation) -> Page
     ensures { λ r. ⌜ r ≡ putCalculation c p ⌝ }
 {
@@ -73,7 +74,7 @@ fn put_last(p: Page, c: Calculation) -> Page
     Page { bytes, at: behind }
 }
 
-// The modifier of one term, if it is not 0.
+// A page with the modifier of one term more, if the term is not 0.
 fn put_term(p: Page, m: Nest, register: usize, o: usize, t: usize) -> Page
     requires { ⌜ (o < 7) × (t < 7) ⌝ }
     ensures { λ r. ⌜ r ≡ cond (eqb (natAbs (termOf m t o)) 0) p (putOne (modifierOp register (modifierOf m o t)) p) ⌝ }
@@ -94,7 +95,7 @@ fn put_term(p: Page, m: Nest, register: usize, o: usize, t: usize) -> Page
     put(p, Operation::Modifier(modifier))
 }
 
-// The modifiers that dimension `d` owns, targets ascending.
+// A page with the modifiers more that dimension `d` owns, targets ascending.
 fn put_terms(p: Page, m: Nest, register: usize, d: usize) -> Page
     requires { ⌜ d < 7 ⌝ }
     ensures { λ r. ⌜ r ≡ putAll (map (modifierOp register) (modifiersAt m d 0 d)) p ⌝ }
@@ -108,7 +109,7 @@ fn put_terms(p: Page, m: Nest, register: usize, d: usize) -> Page
     page
 }
 
-// Dimension `d`.
+// A page with dimension `d` more.
 fn put_dimension(p: Page, m: Nest, register: usize, a: Access, d: usize) -> Page
     requires { ⌜ d < 7 ⌝ }
     ensures { λ r. ⌜ r ≡ putOne (op.Dimension (dimensionOf m register a d)) p ⌝ }
@@ -125,7 +126,7 @@ fn put_dimension(p: Page, m: Nest, register: usize, a: Access, d: usize) -> Page
     put(p, Operation::Dimension(dimension))
 }
 
-// All dimensions, each followed by its modifiers.
+// A page with all dimensions of an access more, each followed by its modifiers.
 fn put_dimensions(p: Page, m: Nest, register: usize, a: Access) -> Page
     requires { ⌜ m .loops ≤ 7 ⌝ }
     ensures { λ r. ⌜ r ≡ putAll (dimensionOps m register a 0 (m .loops)) p ⌝ }
@@ -140,7 +141,7 @@ fn put_dimensions(p: Page, m: Nest, register: usize, a: Access) -> Page
     page
 }
 
-// One stream: open, its dimensions, end.
+// A page with one stream more: open, its dimensions, end.
 fn put_stream(p: Page, m: Nest, register: usize, kind: Kind, a: Access) -> Page
     requires { ⌜ m .loops ≤ 7 ⌝ }
     ensures { λ r. ⌜ r ≡ putAll (streamOps m register kind a) p ⌝ }
@@ -158,7 +159,7 @@ fn put_stream(p: Page, m: Nest, register: usize, kind: Kind, a: Access) -> Page
     put(given, Operation::End(register))
 }
 
-// The whole sheet: two loads, a store, and the run of one calculation.
+// A page with the whole sheet of a nest: two loads, a store, and the run of one calculation.
 pub(crate) fn sheet_page(m: Nest) -> Page
     requires { ⌜ m .loops ≤ 7 ⌝ }
     ensures { λ r. ⌜ SheetPage m r ⌝ }

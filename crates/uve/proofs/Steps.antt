@@ -1,60 +1,21 @@
--- One byte, one flag, one number, one register more.
-use Prim.Native.Nat.{ℕ, suc, _+_, _-_, _*_, _/_, _%_, _^_, _≤_, _<_}
+-- One flag, one number, one register more.
+use Prim.Native.Nat.{ℕ, suc, _+_, _-_, _*_, _^_, _≤_, _<_}
 use mathlib.Core.Path.{_≡_, refl}
-use mathlib.Core.List.{List, _∷_, _++_, append-assoc}
+use mathlib.Core.List.{List, _++_, append-assoc}
 use native.Mathlib.Omega.{arith}
 use native.Mathlib.Numerals.{add-one}
-use lib.ListN.{length, getD, set, drop, drop-of-length-le}
+use lib.ListN.{length, getD, drop, drop-of-length-le}
 use lib.Seq.{sets, drop-cons}
-use lib.Pow.{pow-mono, pow-add}
-use Rattle.engine.specs.Memory.{valueAt, littleEndian, joined}
+use lib.Pow.{pow-add}
+use Rattle.engine.specs.Memory.{littleEndian, joined}
 use Rattle.engine.specs.ByteLaws.{length-little}
 use Rattle.engine.specs.Registers.{reg}
 use Rattle.engine.specs.Run.{Progress}
 use Rattle.engine.specs.declared.register.Machine.{Machine}
+use Rattle.engine.proofs.ByteSteps.{sets-append}
 use Rattle.uve.specs.Reports.{bytesOf64, headNumbers, flagDigit, flagsFrom, registerNumbers, registersFrom, maskNumbers, reportOf}
-use Rattle.uve.specs.BytesOf64.{joined-append, length-joined, sets-append}
+use Rattle.uve.specs.JoinedLaws.{joined-append, length-joined}
 use Rattle.uve.specs.ReportLaws.{register-length}
-
--- ---- bytes of a number
-
-little-next : (n m x : ℕ) → n ≡ suc m → littleEndian n x ≡ x % 256 ∷ littleEndian m (x / 256)
-unfolding littleEndian
-little-next n m x e = rw e
-
--- the lowest byte is stored, and the rest is to be stored behind it
-pub byte-stored : (l : List ℕ) (at k x : ℕ) → k < 8
-    → sets l (at + k) (littleEndian (8 - k) x) ≡ sets (set l (at + k) (x % 256)) (at + (k + 1)) (littleEndian (8 - (k + 1)) (x / 256))
-byte-stored l at k x h =
-    let e : at + (k + 1) ≡ suc (at + k) = omega arith in
-    rw (little-next (8 - k) (8 - (k + 1)) x (omega arith), e)
-
-pub all-stored : (l : List ℕ) (i n x : ℕ) → n ≡ 0 → sets l i (littleEndian n x) ≡ l
-unfolding littleEndian
-all-stored l i n x e = rw e
-
--- one byte below those that were read
-pub byte-read : (l : List ℕ) (at k : ℕ) → 0 < k → k ≤ 8
-    → valueAt l (at + (k - 1)) (8 - (k - 1)) ≡ getD l (at + (k - 1)) 0 + 256 * valueAt l (at + k) (8 - k)
-unfolding valueAt
-byte-read l at k p h =
-    let e : 8 - (k - 1) ≡ suc (8 - k) = omega arith in
-    let f : suc (at + (k - 1)) ≡ at + k = omega arith in
-    rw (e, f)
-
-pub none-read : (l : List ℕ) (k : ℕ) → valueAt l k 0 ≡ 0
-unfolding valueAt
-none-read l k = refl
-
--- seven bytes leave room for one more
-pub room : (x n : ℕ) → x < 2 ^ (8 * n) → n ≤ 7 → x < 2 ^ 56
-room x n h p = omega (arith, pow-mono {i = 8 * n} {j = 56} (omega arith))
-
-pub grown : (b x n m : ℕ) → b < 256 → x < 2 ^ (8 * n) → m ≡ suc n → b + 256 * x < 2 ^ (8 * m)
-grown b x n m p h e =
-    let f : 8 * m ≡ 8 * n + 8 = omega arith in
-    let g : 2 ^ (8 * n + 8) ≡ 2 ^ (8 * n) * 256 = pow-add 2 (8 * n) 8 in
-    rw (f, g) (omega arith)
 
 -- ---- flags
 

@@ -1,4 +1,4 @@
--- What a call answers, and every byte that it leaves.
+-- What a call answers, and every byte that it leaves. In quotation marks: the request for a library, which include/uve.h tells its callers.
 --
 --   unanswered                               2^64 - 1
 --   runAnswer, runMemory, runReport          a run: the answer, the memory and the report after it
@@ -14,7 +14,7 @@ use Rattle.translator.specs.Reading.{nestAt}
 use Rattle.translator.specs.Translation.{translated, roomAfter}
 use Rattle.uve.specs.Reports.{bytesOf64, numberGiven, reportOf, refusedNumber, translationNumbers}
 
--- "the answer is 2^64 - 1"
+-- "the answer is 2^64 - 1": where a report is too short
 abbrev pub unanswered : ℕ
 unanswered = 2 ^ 64 - 1
 

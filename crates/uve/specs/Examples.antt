@@ -1,6 +1,7 @@
 -- Reports, computed from the definitions.
 --
 --   freshes, registerAt   the numbers of fresh registers; of one register of a report
+--   reportFor             the report of a run
 --   runs                  the reports of runs
 --   registers             registers in every state, of both kinds
 --   calls                 bytes of reports; a report that is too short
@@ -9,9 +10,9 @@ use Prim.Native.Nat.{ℕ, zero, suc, _+_, _*_}
 use mathlib.Core.Path.{_≡_, refl}
 use mathlib.Core.List.{List, [], _∷_, _++_, map}
 use lib.ListN.{replicate, take, drop}
-use Rattle.codec.specs.Numbers.{groupsAt, numberAt, signedOf, groupsOf}
-use Rattle.codec.specs.Headers.{headerSaid, headerOf, wordOf}
-use Rattle.codec.specs.Operations.{openAt, dimensionAt, modifierAt, endAt, runAt, operationAt, calculationAt, operationBytes, calculationBytes, bytesOfAll}
+use Rattle.codec.specs.Numbers.{groupsAt, numberAt, signedOf}
+use Rattle.codec.specs.Headers.{headerSaid, headerOf}
+use Rattle.codec.specs.Operations.{openAt, dimensionAt, modifierAt, endAt, runAt, operationAt, calculationAt}
 use Rattle.engine.specs.Loops.{sizeAt, added, span, loops, elements}
 use Rattle.engine.specs.Chunks.{passes, withElements, groups, leftAfter, chunkOf, differ, height}
 use Rattle.engine.specs.Rules.{only, highs, lowOrHighFrom, product}
@@ -22,16 +23,10 @@ use Rattle.engine.specs.Calculate.{given, results, allInside, refusalOf, readFr
 use Rattle.engine.specs.Checks.{firstOf}
 use Rattle.engine.specs.Registers.{nextChunk, movedBy, toCome}
 use Rattle.engine.specs.Configure.{whyNot, configured}
-use Rattle.engine.specs.Run.{Progress, pass, repeat}
+use Rattle.engine.specs.Run.{pass, repeat}
 use Rattle.engine.specs.Sheets.{bodyAt, names, operationsFrom, run}
 use Rattle.engine.specs.Table.{copies, grown, triangle, coupled, words, nest, three, bytes}
-use Rattle.translator.specs.Fields.{termFields, loopFields, strideFields}
-use Rattle.translator.specs.NestRules.{nonzeroFor, nonzeroFrom, total, highsFrom}
-use Rattle.translator.specs.NestRules
-use Rattle.translator.specs.Reading.{nestAt}
-use Rattle.translator.specs.Reading
-use Rattle.translator.specs.NestSheets.{modifiersAt, modifiersFrom, dimensionOps, sheetOf}
-use Rattle.translator.specs.Examples.{oneBytes}
+use Rattle.translator.specs.Examples.{oneBytes, sheetFor}
 use Rattle.uve.specs.Reports.{bytesOf64, headNumbers, flagsFrom, registerNumbers, registersFrom, reportOf, translationNumbers}
 use Rattle.uve.specs.Calls.{runAnswer, runMemory, runReport, translateAnswer, translateRoom, translateReport}
 
@@ -40,50 +35,50 @@ unfoldable pub freshes : ℕ → List ℕ
 freshes zero = []
 freshes (suc n) = (0 ∷ 0 ∷ 1 ∷ replicate 11 0) ++ freshes n
 
--- the first seven numbers of register i: its state, kind, width, valid lanes, dimensions, flags and first eight lane bytes
-unfoldable pub registerAt : Progress → ℕ → List ℕ
-registerAt p i = take 7 (drop (8 + 14 * i) (reportOf p))
+-- the first seven numbers of register i of a report: its state, kind, width, valid lanes, dimensions, flags and first eight lane bytes
+unfoldable pub registerAt : List ℕ → ℕ → List ℕ
+registerAt report i = take 7 (drop (8 + 14 * i) report)
 
--- "an empty sheet too"; 15; "Words, base 4, size 5, stride 2, length 16": done with 40 bytes of memory, refused with 14 with 39
-pub runs :
-    (reportOf (run 8 [] []) ≡ replicate 8 0 ++ (freshes 32 ++ replicate 8 0))
-    × (reportOf (run 12 words []) ≡ (15 ∷ replicate 7 0) ++ (freshes 32 ++ replicate 8 0))
-    × (reportOf (run 16 (words ++ copies) (bytes 0 40))
-    ≡ (0 ∷ 0 ∷ 2 ∷ 2 ∷ replicate 4 0)
-    ++ (freshes 1
-    ++ ((3 ∷ 1 ∷ 4 ∷ 1 ∷ 1 ∷ 1 ∷ 0x27262524 ∷ replicate 7 0)
-    ++ ((0 ∷ 0 ∷ 4 ∷ 1 ∷ 0 ∷ 0 ∷ 0x27262524 ∷ replicate 7 0) ++ (freshes 29 ++ replicate 8 0)))))
-    × (reportOf (run 16 (words ++ copies) (bytes 0 39))
-    ≡ (14 ∷ 15 ∷ 1 ∷ 1 ∷ replicate 4 0)
-    ++ (freshes 1
-    ++ ((2 ∷ 1 ∷ 4 ∷ 4 ∷ 1 ∷ 0 ∷ 0x0f0e0d0c07060504 ∷ 0x1f1e1d1c17161514 ∷ replicate 6 0)
-    ++ ((0 ∷ 0 ∷ 4 ∷ 4 ∷ 0 ∷ 0 ∷ 0x0f0e0d0c07060504 ∷ 0x1f1e1d1c17161514 ∷ replicate 6 0) ++ (freshes 29 ++ replicate 8 0)))))
-unfolding headNumbers flagsFrom registerNumbers registersFrom reportOf freshes copies words bytes
+-- the report of a run: vector length, sheet, memory; to unfold it is to unfold all that a run and its report compute with
+unfoldable pub reportFor : ℕ → List ℕ → List ℕ → List ℕ
+unfolding headNumbers flagsFrom registerNumbers registersFrom reportOf
     groupsAt numberAt signedOf headerSaid headerOf openAt dimensionAt modifierAt endAt runAt operationAt calculationAt
     sizeAt added span loops elements passes withElements groups leftAfter chunkOf differ height only highs lowOrHighFrom product
     addressUpTo valueAt littleEndian stored lanesFrom joined holding lanewise
     given results allInside refusalOf readFrom writtenTo memoryAfter effect
     firstOf nextChunk movedBy toCome whyNot configured pass repeat bodyAt names operationsFrom
+reportFor vl sheet memory = reportOf (run vl sheet memory)
+
+-- "an empty sheet too"; 15; "Words, base 4, size 5, stride 2, length 16": done with 40 bytes of memory, refused with 14 with 39
+pub runs :
+    (reportFor 8 [] [] ≡ replicate 8 0 ++ (freshes 32 ++ replicate 8 0))
+    × (reportFor 12 words [] ≡ (15 ∷ replicate 7 0) ++ (freshes 32 ++ replicate 8 0))
+    × (reportFor 16 (words ++ copies) (bytes 0 40)
+    ≡ (0 ∷ 0 ∷ 2 ∷ 2 ∷ replicate 4 0)
+    ++ (freshes 1
+    ++ ((3 ∷ 1 ∷ 4 ∷ 1 ∷ 1 ∷ 1 ∷ 0x27262524 ∷ replicate 7 0)
+    ++ ((0 ∷ 0 ∷ 4 ∷ 1 ∷ 0 ∷ 0 ∷ 0x27262524 ∷ replicate 7 0) ++ (freshes 29 ++ replicate 8 0)))))
+    × (reportFor 16 (words ++ copies) (bytes 0 39)
+    ≡ (14 ∷ 15 ∷ 1 ∷ 1 ∷ replicate 4 0)
+    ++ (freshes 1
+    ++ ((2 ∷ 1 ∷ 4 ∷ 4 ∷ 1 ∷ 0 ∷ 0x0f0e0d0c07060504 ∷ 0x1f1e1d1c17161514 ∷ replicate 6 0)
+    ++ ((0 ∷ 0 ∷ 4 ∷ 4 ∷ 0 ∷ 0 ∷ 0x0f0e0d0c07060504 ∷ 0x1f1e1d1c17161514 ∷ replicate 6 0) ++ (freshes 29 ++ replicate 8 0)))))
+unfolding reportFor freshes copies words bytes
 runs = (refl, refl, refl, refl)
 
 -- an open stream of two dimensions, one being configured, one that has no elements; 01's sheet of 42 bytes, which finishes two loads
 -- and a store; the triangle coupled to 1, refused after its third row: flag 1 alone
 pub registers :
-    (map (registerAt (run 8 three [])) (0 ∷ 1 ∷ 2 ∷ 3 ∷ [])
+    (map (registerAt (reportFor 8 three [])) (0 ∷ 1 ∷ 2 ∷ 3 ∷ [])
     ≡ (0 ∷ 0 ∷ 1 ∷ replicate 4 0)
     ∷ (2 ∷ 1 ∷ 1 ∷ 0 ∷ 2 ∷ 0 ∷ 0 ∷ [])
     ∷ (1 ∷ 1 ∷ 1 ∷ 0 ∷ 0 ∷ 0 ∷ 0 ∷ [])
     ∷ (3 ∷ 1 ∷ 1 ∷ 0 ∷ 1 ∷ 1 ∷ 0 ∷ [])
     ∷ [])
-    × (map (registerAt (run 8 nest (bytes 1 19))) (1 ∷ 2 ∷ 3 ∷ [])
+    × (map (registerAt (reportFor 8 nest (bytes 1 19))) (1 ∷ 2 ∷ 3 ∷ [])
     ≡ (3 ∷ 1 ∷ 1 ∷ 3 ∷ 1 ∷ 1 ∷ 0x030201 ∷ []) ∷ (3 ∷ 1 ∷ 1 ∷ 3 ∷ 1 ∷ 1 ∷ 0x0b0a09 ∷ []) ∷ (3 ∷ 2 ∷ 1 ∷ 0 ∷ 1 ∷ 1 ∷ 0 ∷ []) ∷ [])
-    × (registerAt (run 8 (coupled ++ copies) (bytes 0 20)) 1 ≡ 2 ∷ 1 ∷ 1 ∷ 3 ∷ 2 ∷ 1 ∷ 0x121110 ∷ [])
-unfolding headNumbers flagsFrom registerNumbers registersFrom reportOf registerAt copies grown triangle coupled nest three bytes
-    groupsAt numberAt signedOf headerSaid headerOf openAt dimensionAt modifierAt endAt runAt operationAt calculationAt
-    sizeAt added span loops elements passes withElements groups leftAfter chunkOf differ height only highs lowOrHighFrom product
-    addressUpTo valueAt littleEndian stored lanesFrom joined holding lanewise
-    given results allInside refusalOf readFrom writtenTo memoryAfter effect
-    firstOf nextChunk movedBy toCome whyNot configured pass repeat bodyAt names operationsFrom
+    × (registerAt (reportFor 8 (coupled ++ copies) (bytes 0 20)) 1 ≡ 2 ∷ 1 ∷ 1 ∷ 3 ∷ 2 ∷ 1 ∷ 0x121110 ∷ [])
+unfolding reportFor registerAt copies grown triangle coupled nest three bytes
 registers = (refl, refl, refl)
 
 -- a report's first bytes; a report that is a byte too short
@@ -103,8 +98,5 @@ pub translations :
     × (translateAnswer [] [] (replicate 24 7) ≡ 1)
     × (translateAnswer oneBytes (replicate 50 0) (replicate 23 7) ≡ 18446744073709551615)
     × (translateRoom oneBytes (replicate 50 0) (replicate 23 7) ≡ replicate 50 0)
-unfolding translationNumbers translateAnswer translateRoom translateReport littleEndian joined
-    numberAt groupsAt signedOf groupsOf wordOf operationBytes calculationBytes
-    termFields loopFields strideFields Reading.readFrom nestAt nonzeroFor nonzeroFrom total highsFrom NestRules.lowOrHighFrom product firstOf
-    modifiersAt modifiersFrom dimensionOps bytesOfAll sheetOf oneBytes
+unfolding translationNumbers translateAnswer translateRoom translateReport littleEndian joined sheetFor oneBytes
 translations = (refl, refl, refl, refl, refl)

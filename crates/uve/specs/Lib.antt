@@ -1,6 +1,6 @@
 pub mod Reports
 pub mod Calls
-pub mod BytesOf64
+pub mod JoinedLaws
 pub mod ReportLaws
 pub mod CallLaws
 pub mod Examples

@@ -32,7 +32,7 @@ use Rattle.engine.specs.declared.register.State.the-variants.{Plain, Configurin
 use Rattle.engine.specs.declared.register.Register.{Register}
 use Rattle.engine.specs.declared.register.Machine.{Machine}
 use Rattle.uve.specs.Reports.{bytesOf64, headNumbers, ofStream, flagDigit, flagsFrom, flagsOf, laneNumbers, registerNumbers, registersFrom, maskNumbers, reportOf}
-use Rattle.uve.specs.BytesOf64.{length-joined, joined-lanes}
+use Rattle.uve.specs.JoinedLaws.{length-joined, joined-lanes}
 
 -- ---- how many numbers
 

@@ -1,4 +1,4 @@
--- The numbers of a report.
+-- The numbers of a report. In quotation marks: the request for a library, which include/uve.h tells its callers.
 --
 --   bytesOf64                        numbers as bytes
 --   numberGiven, placeGiven          a verdict's number and place
@@ -74,7 +74,7 @@ unlessPlain Configuring n = n
 unlessPlain Open n = n
 unlessPlain Finished n = n
 
--- ".. flags of a plain or configuring one"
+-- "What does not apply is 0: .. flags of a plain or configuring one"
 abbrev pub ofStream : State → ℕ → ℕ
 ofStream Plain n = 0
 ofStream Configuring n = 0
@@ -109,7 +109,7 @@ registerNumbers r =
     ∷ ofStream (r .state) (flagsOf (r .pattern .shape .dims) (r .height))
     ∷ laneNumbers (r .lanes)
 
--- n registers from register i on
+-- the numbers of n registers from register i on, one register after the other
 unfoldable pub registersFrom : Machine → ℕ → ℕ → List ℕ
 registersFrom m i zero = []
 registersFrom m i (suc n) = registerNumbers (reg m i) ++ registersFrom m (suc i) n

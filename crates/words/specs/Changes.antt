@@ -5,7 +5,7 @@ use mathlib.Core.Bool.{cond}
 use mathlib.Core.List.{List, [], _∷_}
 use lib.Dec.{eqb}
 
--- "how many memory bytes changed": the places, as far as both go, at which the two are not the same
+-- how many memory bytes a run changed: the places, as far as both go, at which the two are not the same
 unfoldable pub changedIn : List ℕ → List ℕ → ℕ
 changedIn [] m = 0
 changedIn (a ∷ l) [] = 0

@@ -7,6 +7,7 @@ use Rattle.engine.specs.declared.register.State.{State}
 use Rattle.engine.specs.declared.register.State.the-variants.{Plain, Configuring, Open, Finished}
 use Rattle.engine.specs.declared.register.Register.{Register}
 
+-- a state is plain
 abbrev pub isPlain : State → Bool
 isPlain Plain = true
 isPlain Configuring = false

@@ -1,10 +1,11 @@
 // Whole files, read into a lent buffer and written; why one cannot be is said on standard error.
+use crate::argument::complain;
 ghost use mathlib.Core.Path.{_≡_};
 ghost use Prim.Native.Nat.{_≤_};
 ghost use lib.ListN.{length};
 ghost use lib.Dec.{eqb};
 ghost use Rattle.io.specs.Counts.{Counts};
-ghost use Rattle.words.specs.Files.{isFailed, isFull};
+ghost use Rattle.words.specs.Files.{isEnded, isFailed, isFull};
 
 // How reading stopped: at the end of the file, in a read that failed, or with the buffer full.
 pub enum Stop {
@@ -120,7 +121,7 @@ pub fn read_path(path: &[u8], out: &mut [u8]) -> Taken
     taken
 }
 
-// The same of the file that an argument names.
+// Reads the file that an argument names as read_path does.
 pub fn read_argument(i: usize, out: &mut [u8]) -> Taken
     ensures { λ r. ⌜ Counts (r .count) (now (out .exit)) ⌝ }
 {
@@ -152,6 +153,24 @@ pub fn write_output(bytes: &[u8]) {
     }
 }
 
+// Whether a sheet was read to its end. If not, a line on standard error says that it is too long, or, where it could not be read, how the
+// program is used.
+pub fn is_whole(stop: Stop, usage: &[u8]) -> bool
+    ensures { λ r. ⌜ r ≡ isEnded stop ⌝ }
+{
+    match stop {
+        Stop::Ended => true,
+        Stop::Failed => {
+            complain(usage);
+            false
+        }
+        Stop::Full => {
+            complain(b"the sheet has more than 65,536 bytes\n");
+            false
+        }
+    }
+}
+
 // Writes bytes to an open file and closes it; whether both went well.
 fn put(fd: i32, bytes: &[u8], path: &[u8]) -> bool {
     if !io::write_all(fd, bytes) {
@@ -176,7 +195,7 @@ pub fn write_path(path: &[u8], bytes: &[u8]) -> bool {
     put(fd, bytes, path)
 }
 
-// The same of the file that an argument names.
+// Makes bytes the content of the file that an argument names, as write_path does.
 pub fn write_argument(i: usize, bytes: &[u8]) -> bool {
     let mut path = io::buffer();
     let n = os::arg(i, &mut path);

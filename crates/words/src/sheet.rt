@@ -14,6 +14,7 @@ use codec::operation::Decoded;
 use codec::operation::Operation;
 use codec::operation::decode;
 use codec::operation::decode_calculation;
+use engine::configure::register_of;
 use engine::outline::Extent;
 use engine::outline::Outline;
 use engine::outline::outline_of;
@@ -94,17 +95,6 @@ fn unreadable(sheet: &[u8], place: usize, words: &[u8]) {
     }
     say(words);
     say(b"\n");
-}
-
-// The register of an operation.
-fn register_of(o: Operation) -> usize {
-    match o {
-        Operation::Open(h, base) => h.register,
-        Operation::Dimension(d) => d.register,
-        Operation::Modifier(m) => m.register,
-        Operation::End(i) => i,
-        Operation::Run(i, n) => i,
-    }
 }
 
 fn given_to(given: [Given; 32], i: usize) -> Given {

@@ -8,7 +8,7 @@ use lib.Seq.{sets, length-sets}
 use Rattle.engine.specs.Bodies.{progressOf}
 use Rattle.engine.specs.Registers.{reg}
 use Rattle.uve.specs.Reports.{bytesOf64, headNumbers, registerNumbers, registersFrom, maskNumbers, reportOf}
-use Rattle.uve.specs.CallLaws.{unrun, ran}
+use Rattle.uve.specs.CallLaws.{run-short, run-long}
 use Rattle.uve.proofs.Steps.{head-put, register-put, registers-put}
 use native.Mathlib.Omega.{arith}
 use borrow.Author.Needs.{needs}
@@ -26,7 +26,7 @@ abbrev μ-loop : tie.MeasureT-loop
 μ-loop sheet vl memory report₀ verdict machine i₀ report i = 32 - i
 
 returns : tie.Need-returns Inv-loop μ-loop
-returns c = unrun _ _ _ _ (c .if1 .taken)
+returns c = run-short _ _ _ _ (c .if1 .taken)
 
 run-requires : tie.Need-run-requires Inv-loop μ-loop
 run-requires c κs = search needs
@@ -117,7 +117,7 @@ returns-2 c =
     ∙ l .inv .3
     ∙ ap (λ b. sets b 64 rest) head
     ∙ sym (head-put (a .report .now) p) in
-    let r = ran (a .vl) (a .sheet .now) (a .memory .now) (a .report .now) (run .before .before .if1 .left) p (run .run .ensures) in
+    let r = run-long (a .vl) (a .sheet .now) (a .memory .now) (a .report .now) (run .before .before .if1 .left) p (run .run .ensures) in
     (c .number-given .ensures ∙ r .0, (r .1 .0, c .before .before .before .put-all3 .ensures ∙ all ∙ r .1 .1))
 
 pub uve-run-spec : {M : Type 1} → statement M

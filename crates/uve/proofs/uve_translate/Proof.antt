@@ -2,13 +2,13 @@
 use mathlib.Core.Path.{_∙_, ap}
 use lib.Seq.{sets}
 use Rattle.uve.specs.Reports.{bytesOf64}
-use Rattle.uve.specs.CallLaws.{untranslated, translates}
+use Rattle.uve.specs.CallLaws.{translate-short, translate-long}
 use borrow.Author.Needs.{needs}
 use Rattle.uve.proofs.uve_translate.Statement.{statement}
 use Rattle.uve.proofs.uve_translate.Tie as tie
 
 returns : tie.Need-returns
-returns c = untranslated _ _ _ (c .if1 .taken)
+returns c = translate-short _ _ _ (c .if1 .taken)
 
 translate-requires : tie.Need-translate-requires
 translate-requires c κs = search needs
@@ -35,7 +35,7 @@ returns-2 : tie.Need-returns-2
 returns-2 c =
     let a = c .before .before .before .before .before .before .before .before .before .before .before .before .before .before .before .args in
     let t = c .before .before .before .before .before .before .before .before .before .translate in
-    let r = translates (a .nest .now) (a .room .now) (a .report .now) (c .before .before .before .before .before .before .before .before .before .before .before .if1 .left) (t .result) (t .last .1 .0) (t .ensures .0) (t .ensures .1) in (
+    let r = translate-long (a .nest .now) (a .room .now) (a .report .now) (c .before .before .before .before .before .before .before .before .before .before .before .if1 .left) (t .result) (t .last .1 .0) (t .ensures .0) (t .ensures .1) in (
       c .refused-number .ensures ∙ r .0,
       (r .1 .0, c .before .before .before .put-all .ensures ∙ ap (λ ns. sets (a .report .now) 0 (bytesOf64 ns)) (c .before .before .before .before .before .before .translation-numbers .ensures) ∙ r .1 .1),
     )

@@ -16,11 +16,11 @@ loops-of-requires c κs = search needs
 width-of-requires : tie.Need-width-of-requires Inv-loop μ-loop
 width-of-requires c κs = search needs
 
-mul-place : tie.Need-mul-place Inv-loop μ-loop
-mul-place c = search needs
+mul-t10 : tie.Need-mul-t10 Inv-loop μ-loop
+mul-t10 c = search needs
 
-element-copy-out-place : tie.Need-element-copy-out-place Inv-loop μ-loop
-element-copy-out-place c = search needs
+element-copy-out-t13 : tie.Need-element-copy-out-t13 Inv-loop μ-loop
+element-copy-out-t13 c = search needs
 
 loop-holds : tie.Need-loop-holds Inv-loop μ-loop
 loop-holds c = search needs
@@ -31,23 +31,20 @@ add-stride c = search needs
 add-stride-2 : tie.Need-add-stride-2 Inv-loop μ-loop
 add-stride-2 c = search needs
 
-mul-moved : tie.Need-mul-moved Inv-loop μ-loop
-mul-moved c = search needs
+mul-t15 : tie.Need-mul-t15 Inv-loop μ-loop
+mul-t15 c = search needs
 
-element-copy-out-moved : tie.Need-element-copy-out-moved Inv-loop μ-loop
-element-copy-out-moved c = search needs
+element-copy-out-t18 : tie.Need-element-copy-out-t18 Inv-loop μ-loop
+element-copy-out-t18 c = search needs
 
-mul-times : tie.Need-mul-times Inv-loop μ-loop
-mul-times c = search needs
+mul-moved-on : tie.Need-mul-moved-on Inv-loop μ-loop
+mul-moved-on c = search needs
 
-array-read-times : tie.Need-array-read-times Inv-loop μ-loop
-array-read-times c = search needs
+array-read-moved-on : tie.Need-array-read-moved-on Inv-loop μ-loop
+array-read-moved-on c = search needs
 
-times-requires : tie.Need-times-requires Inv-loop μ-loop
-times-requires c κs = search needs
-
-moved-requires : tie.Need-moved-requires Inv-loop μ-loop
-moved-requires c κs = search needs
+moved-on-requires : tie.Need-moved-on-requires Inv-loop μ-loop
+moved-on-requires c κs = search needs
 
 add-d : tie.Need-add-d Inv-loop μ-loop
 add-d c = search needs
@@ -69,17 +66,16 @@ place-of-spec =
     μ-loop
     loops-of-requires
     width-of-requires
-    mul-place
-    element-copy-out-place
+    mul-t10
+    element-copy-out-t13
     loop-holds
     add-stride
     add-stride-2
-    mul-moved
-    element-copy-out-moved
-    mul-times
-    array-read-times
-    times-requires
-    moved-requires
+    mul-t15
+    element-copy-out-t18
+    mul-moved-on
+    array-read-moved-on
+    moved-on-requires
     add-d
     loop-less
     loop-again

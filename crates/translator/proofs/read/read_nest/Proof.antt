@@ -1,12 +1,17 @@
 -- `read::read_nest` meets its contract: a refusal of the first four numbers, of those behind them, of bytes after them, or of a rule; else the nest.
 use borrow.Author.Needs.{needs}
-use Prim.Native.Nat.{ℕ}
+use Prim.Native.Nat.{ℕ, _≤_}
 use mathlib.Core.Path.{_≡_, sym, _∙_}
 use mathlib.Core.Bool.{false}
 use mathlib.Core.List.{List}
+use lib.ListN.{length}
 use Rattle.codec.specs.NumberLaws.{areBytes}
+use Rattle.engine.specs.ShapeCheck.{checkShape}
+use Rattle.engine.specs.declared.check.Why.{Why}
 use Rattle.engine.specs.declared.check.Why.the-variants.{Nothing, Because}
+use Rattle.translator.specs.Reading.{unless, nestAt}
 use Rattle.translator.specs.Parts.{isRefused}
+use Rattle.translator.specs.Keeping.{keptShape}
 use Rattle.translator.specs.Acceptance.{InRange}
 use Rattle.translator.specs.NestAnswers.{read-ranged, nest-trailing, nest-ruled, head-refused, rest-refused}
 use Rattle.translator.specs.declared.read.Part.{Part}
@@ -41,6 +46,14 @@ ranged c =
     read-ranged (text (front c)) (are-bytes (front c)) (head (front c)) (rest c) (front c .before .before .before .read-head .ensures .0) (head-done (front c))
     (c .before .before .before .read-rest .ensures)
     (rest-done c) .0
+
+-- a nest that was read whole: it is accepted or refused as its shape is
+ruled : (c : tie.Else2) → length (text (front c)) ≤ rest c .cursor .at → (w : Why) → w ≡ checkShape (keptShape (rest c .nest))
+    → unless w (rest c .nest) ≡ nestAt (text (front c))
+ruled c =
+    nest-ruled (text (front c)) (are-bytes (front c)) (head (front c)) (rest c) (front c .before .before .before .read-head .ensures .0) (head-done (front c))
+    (c .before .before .before .read-rest .ensures)
+    (rest-done c)
 
 read-head-requires : tie.Need-read-head-requires
 read-head-requires c κs = search needs
@@ -82,21 +95,11 @@ enum-known-refusal c = search needs
 
 returns-4 : tie.Need-returns-4
 returns-4 c =
-    let e = c .before .before .before .before in
-    nest-ruled (text (front e)) (are-bytes (front e)) (head (front e)) (rest e) (front e .before .before .before .read-head .ensures .0) (head-done (front e))
-    (e .before .before .before .read-rest .ensures)
-    (rest-done e)
-    (c .before .before .before .if3 .left)
-    Nothing
-    (sym (c .enum-told .given .1) ∙ c .before .before .why-not .ensures)
+    ruled (c .before .before .before .before) (c .before .before .before .if3 .left) Nothing (sym (c .enum-told .given .1) ∙ c .before .before .why-not .ensures)
 
 returns-5 : tie.Need-returns-5
 returns-5 c =
-    let e = c .before .before .before .before .before in
-    nest-ruled (text (front e)) (are-bytes (front e)) (head (front e)) (rest e) (front e .before .before .before .read-head .ensures .0) (head-done (front e))
-    (e .before .before .before .read-rest .ensures)
-    (rest-done e)
-    (c .before .before .before .before .if3 .left)
+    ruled (c .before .before .before .before .before) (c .before .before .before .before .if3 .left)
     (Because (c .before .refusal .given .0 .0))
     (sym (c .before .refusal .given .1) ∙ c .before .before .before .why-not .ensures)
 

@@ -4,12 +4,12 @@ use borrow.Author.Needs.{needs}
 use mathlib.Core.Path.{_≡_}
 use lib.ListN.{length, take}
 use Rattle.translator.specs.NestSheets.{sheetOf}
-use Rattle.translator.specs.SheetPages.{Holds, sheet-page}
+use Rattle.translator.specs.SheetPages.{AtFront, sheet-page}
 use Rattle.translator.proofs.run.run_sheet.Statement.{statement}
 use Rattle.translator.proofs.run.run_sheet.Tie as tie
 
 -- what stands on the page
-holds : (c : tie.After-bytes) → Holds (c .before .sheet-page .result) (sheetOf (c .before .before .before .args .m))
+holds : (c : tie.After-bytes) → AtFront (c .before .sheet-page .result) (sheetOf (c .before .before .before .args .m))
 holds c = sheet-page (c .before .before .before .args .m) (c .before .sheet-page .result) (c .before .before .before .pre) (c .before .sheet-page .ensures)
 
 front : (c : tie.After-bytes) → take (c .before .sheet-page .result .at) (c .before .sheet-page .result .bytes) ≡ sheetOf (c .before .before .before .args .m)

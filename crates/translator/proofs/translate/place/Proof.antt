@@ -6,13 +6,13 @@ use mathlib.Core.Path.{_≡_, ap}
 use lib.ListN.{length, take}
 use borrow.Author.Tests.{le-leb, lt-leb}
 use Rattle.translator.specs.NestSheets.{sheetOf}
-use Rattle.translator.specs.SheetPages.{Holds, sheet-page}
+use Rattle.translator.specs.SheetPages.{AtFront, sheet-page}
 use Rattle.translator.specs.declared.nest.Translated.the-variants.{Sheet}
 use Rattle.translator.proofs.translate.place.Statement.{statement}
 use Rattle.translator.proofs.translate.place.Tie as tie
 
 -- what stands on the page
-holds : (c : tie.After-sheet-page) → Holds (c .sheet-page .result) (sheetOf (c .before .before .args .m))
+holds : (c : tie.After-sheet-page) → AtFront (c .sheet-page .result) (sheetOf (c .before .before .args .m))
 holds c = sheet-page (c .before .before .args .m) (c .sheet-page .result) (c .before .before .pre) (c .sheet-page .ensures)
 
 -- the room is shorter than the sheet, or not

@@ -4,7 +4,7 @@ use mathlib.Core.Path.{_≡_, sym, _∙_}
 use native.Mathlib.Nat.{add-zero}
 use borrow.Author.Needs.{needs}
 use Rattle.engine.specs.Memory.{valueAt}
-use Rattle.uve.proofs.Steps.{byte-read, none-read, room, grown}
+use Rattle.engine.proofs.ByteSteps.{byte-loaded, none-loaded, room, grown}
 use native.Mathlib.Omega.{arith}
 use borrow.Author.Needs.{needs}
 use Rattle.uve.proofs.numbers.lane_number.Statement.{statement}
@@ -17,7 +17,7 @@ abbrev μ-loop : tie.MeasureT-loop
 μ-loop at lanes x₀ k₀ x k = k
 
 loop-holds : tie.Need-loop-holds Inv-loop μ-loop
-loop-holds c = (omega arith, sym (none-read _ _), omega arith)
+loop-holds c = (omega arith, sym (none-loaded _ _ _ (omega arith)), omega arith)
 
 sub-k : tie.Need-sub-k Inv-loop μ-loop
 sub-k c = omega arith
@@ -49,7 +49,7 @@ loop-again c =
     let l = c .before .before .loop in
     let a = c .before .before .before .args in (
       omega arith,
-      rw (c .wide .ensures .0, l .inv .1) (sym (byte-read (a .t1) (a .at) (l .k) (c .before .loop-test .taken) (l .inv .0))),
+      rw (c .wide .ensures .0, l .inv .1) (sym (byte-loaded (a .t1) (a .at) (l .k) 8 (c .before .loop-test .taken) (l .inv .0))),
       grown (c .wide .result) (l .x) (8 - l .k) _ (c .wide .ensures .1) (l .inv .2) (omega arith),
     )
 

@@ -5,7 +5,7 @@ use native.Mathlib.Nat.{add-zero}
 use lib.ListN.{length, length-set}
 use lib.Seq.{sets}
 use Rattle.engine.specs.Memory.{littleEndian}
-use Rattle.uve.proofs.Steps.{byte-stored, all-stored}
+use Rattle.engine.proofs.ByteSteps.{byte-stored, none-to-store}
 use native.Mathlib.Omega.{arith}
 use borrow.Author.Needs.{needs}
 use Rattle.uve.proofs.put.put.Statement.{statement}
@@ -38,7 +38,7 @@ loop-less c = omega arith
 loop-again : tie.Need-loop-again Inv-loop μ-loop
 loop-again c =
     let l = c .before .loop in
-    (omega arith, simp length-set (l .inv .1), sym (byte-stored (l .report) _ (l .k) (l .rest) (omega arith)) ∙ l .inv .2)
+    (omega arith, simp length-set (l .inv .1), sym (byte-stored (l .report) _ (l .k) 8 (l .rest) (omega arith)) ∙ l .inv .2)
 
 same-length : tie.Need-same-length Inv-loop μ-loop
 same-length c = search needs
@@ -46,7 +46,7 @@ same-length c = search needs
 returns : tie.Need-returns Inv-loop μ-loop
 returns c =
     let l = c .before .loop in
-    sym (all-stored (l .report) _ _ (l .rest) (omega arith)) ∙ l .inv .2
+    sym (none-to-store (l .report) _ _ (l .rest) (omega arith)) ∙ l .inv .2
 
 pub put-spec : {M : Type 1} → statement M
 put-spec =

@@ -1,9 +1,9 @@
--- Numbers as bytes, one behind the other.
+-- Numbers joined as bytes, one behind the other.
 --
 --   joined-append, length-joined    the bytes of numbers behind numbers; how many there are
 --   joined-read                     a number read back
 --   joined-lanes                    bytes read as numbers and written again
---   sets-append, sets-beyond        bytes written behind bytes; what lies behind them stays
+--   sets-beyond                     what lies behind bytes that are written stays
 use Prim.Native.Nat.{ℕ, zero, suc, _+_, _*_, _%_, _^_, _≤_, _<_}
 use mathlib.Core.Path.{_≡_, refl, sym, _∙_, ap}
 use mathlib.Core.List.{List, [], _∷_, _++_, append-assoc}
@@ -49,14 +49,7 @@ joined-lanes w bytes k (suc n) h p =
     let e : suc n * w ≡ w + n * w = omega arith in
     rw (e, little-value w bytes k h (omega arith), joined-lanes w bytes (k + w) n h (omega arith), take-add, drop-drop)
 
--- bytes written behind bytes
-pub sets-append : (l : List ℕ) (i : ℕ) (xs ys : List ℕ) → sets l i (xs ++ ys) ≡ sets (sets l i xs) (i + length xs) ys
-sets-append l i [] ys = let e : i + 0 ≡ i = omega arith in rw e
-sets-append l i (x ∷ xs) ys =
-    let e : i + suc (length xs) ≡ suc i + length xs = omega arith in
-    rw e (sets-append (set l i x) (suc i) xs ys)
-
--- what lies behind them stays
+-- what lies behind bytes that are written stays
 pub sets-beyond : (l : List ℕ) (i : ℕ) (xs : List ℕ) (k : ℕ) → i + length xs ≤ k → getD (sets l i xs) k 0 ≡ getD l k 0
 sets-beyond l i [] k h = refl
 sets-beyond l i (x ∷ xs) k h = sets-beyond (set l i x) (suc i) xs k (omega arith) ∙ getD-set-other l i k x 0 (λ e. omega arith)
