@@ -1,8 +1,8 @@
 -- The product rule bounds the loops.
 --
---   begun               the iterations that loops begin, at all levels
+--   iterations          the iterations that loops begin, at all levels
 --   few                 there are at most as many elements as the product over the highs
---   begun-few           at most that many iterations begin in each dimension
+--   iterations-few      at most that many iterations begin in each dimension
 use Prim.Native.Nat.{ℕ, zero, suc, _+_, _-_, _*_, _/_, _≤_, _<_, max}
 use mathlib.Core.Path.{_≡_, refl, sym, _∙_, ap, subst}
 use mathlib.Core.List.{List, [], _∷_}
@@ -16,9 +16,9 @@ use Rattle.engine.specs.BoundLaws.{Under, lastsFrom, size-high, highs-ne
 use Rattle.engine.specs.declared.stream.Shape.{Shape}
 
 -- the iterations that the loops of n dimensions from d on begin, at all levels
-unfoldable pub begun : (ℕ → List ℕ → ℕ) → ℕ → ℕ → List ℕ → ℕ
-begun size d zero outer = 0
-begun size d (suc n) outer = sum (λ k. 1 + begun size d n (k ∷ outer)) 0 (size (d + n) outer)
+unfoldable pub iterations : (ℕ → List ℕ → ℕ) → ℕ → ℕ → List ℕ → ℕ
+iterations size d zero outer = 0
+iterations size d (suc n) outer = sum (λ k. 1 + iterations size d n (k ∷ outer)) 0 (size (d + n) outer)
 
 -- the length of parts in a row is the sum of their lengths
 length-span : {A : Type 0} (f : ℕ → List A) (k n : ℕ) → length (span f k n) ≡ sum (λ i. length (f i)) k n
@@ -101,25 +101,25 @@ outer-most s (suc n) h =
     omega (arith, outer-most s n (omega arith), product-next s n h, one-mul q)
 
 -- the iterations of the first n dimensions, times the product over the others, are at most n times the product over all
-count-begun : (s : Shape) (n : ℕ) (outer : List ℕ) → n ≤ s .dims → Under s n outer
-    → begun (sizeAt s) 0 n outer * product (highs s n (s .dims - n)) ≤ n * product (highsOf s)
-unfolding begun
-count-begun s zero outer h u = omega (arith, zero-mul (product (highs s 0 (s .dims - 0))), zero-mul (product (highsOf s)))
-count-begun s (suc n) outer h u =
+count-iterations : (s : Shape) (n : ℕ) (outer : List ℕ) → n ≤ s .dims → Under s n outer
+    → iterations (sizeAt s) 0 n outer * product (highs s n (s .dims - n)) ≤ n * product (highsOf s)
+unfolding iterations
+count-iterations s zero outer h u = omega (arith, zero-mul (product (highs s 0 (s .dims - 0))), zero-mul (product (highsOf s)))
+count-iterations s (suc n) outer h u =
     let z : 0 + n ≡ n = omega arith in
-    let f : ℕ → ℕ = λ i. 1 + begun (sizeAt s) 0 n (i ∷ outer) in
+    let f : ℕ → ℕ = λ i. 1 + iterations (sizeAt s) 0 n (i ∷ outer) in
     let q : ℕ = product (highs s (suc n) (s .dims - suc n)) in
     let p : ℕ = product (highs s n (s .dims - n)) in
     let all : ℕ = product (highsOf s) in
     let each : (i : ℕ) → i < sizeAt s n outer → f i * p ≤ suc n * all = λ i r.
-    omega (arith, count-begun s n (i ∷ outer) (omega arith) (under-more s n h outer u i r), outer-most s n (omega arith), add-mul 1 (begun (sizeAt s) 0 n (i ∷ outer)) p, one-mul p, suc-mul n all) in
+    omega (arith, count-iterations s n (i ∷ outer) (omega arith) (under-more s n h outer u i r), outer-most s n (omega arith), add-mul 1 (iterations (sizeAt s) 0 n (i ∷ outer)) p, one-mul p, suc-mul n all) in
     subst (λ k. sum f 0 (sizeAt s k outer) * q ≤ suc n * all) (sym z) (one-more s n (suc n * all) outer f h u each)
 
 -- at most that many iterations begin in each dimension
-pub begun-few : (s : Shape) → begun (sizeAt s) 0 (s .dims) [] ≤ s .dims * product (highsOf s)
-begun-few s =
+pub iterations-few : (s : Shape) → iterations (sizeAt s) 0 (s .dims) [] ≤ s .dims * product (highsOf s)
+iterations-few s =
     let z : s .dims - s .dims ≡ 0 = omega arith in
-    let n : ℕ = begun (sizeAt s) 0 (s .dims) [] in
-    let k : n * product (highs s (s .dims) (s .dims - s .dims)) ≤ s .dims * product (highsOf s) = count-begun s (s .dims) [] (omega arith) (λ k. omega arith) in
+    let n : ℕ = iterations (sizeAt s) 0 (s .dims) [] in
+    let k : n * product (highs s (s .dims) (s .dims - s .dims)) ≤ s .dims * product (highsOf s) = count-iterations s (s .dims) [] (omega arith) (λ k. omega arith) in
     let e : n * product (highs s (s .dims) (s .dims - s .dims)) ≡ n = ap (λ y. n * product (highs s (s .dims) y)) z ∙ ap (λ y. n * y) (no-highs s (s .dims)) ∙ mul-one n in
     omega arith

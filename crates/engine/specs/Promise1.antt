@@ -2,7 +2,8 @@
 --
 --   NumberAt, NoNumberAt          a number stands at a place, in its one encoding; none does
 --   Range, Holds, fieldsOf        the numbers of an operation and their ranges
---   Fault, AtFault, WordFault     the first number at fault; a header word at fault
+--   NumberFault, NumbersFault     a number at fault; the first of several
+--   WordFault                     a header word at fault
 --   Unread, UnreadCalculation     an operation, a calculation that cannot be read
 --   InRange, OperationAt          an operation as it stands in the sheet
 --   Turns                         operations done in turn
@@ -99,15 +100,15 @@ abbrev pub calculationFields : List Range
 calculationFields = upTo 7 ∷ upTo 31 ∷ upTo 31 ∷ source ∷ []
 
 -- "Each number is read, then checked for range, before the next": the fault is in this number, 1 or 2, or in a later one
-pub data Fault (s : List ℕ) (x : Refusal) (at : ℕ) (before : List ℕ) (f : Range) (Later : ℕ → ℕ → Type 0) : Type 0 where
-  unread : numberOf x ≡ 1 → NoNumberAt s at → Fault s x at before f Later
-  beyond : (n to : ℕ) → numberOf x ≡ 2 → NumberAt s at n to → ¬ Holds f before n → Fault s x at before f Later
-  later : (n to : ℕ) → NumberAt s at n to → Holds f before n → Later n to → Fault s x at before f Later
+pub data NumberFault (s : List ℕ) (x : Refusal) (at : ℕ) (before : List ℕ) (f : Range) (Later : ℕ → ℕ → Type 0) : Type 0 where
+  unread : numberOf x ≡ 1 → NoNumberAt s at → NumberFault s x at before f Later
+  beyond : (n to : ℕ) → numberOf x ≡ 2 → NumberAt s at n to → ¬ Holds f before n → NumberFault s x at before f Later
+  later : (n to : ℕ) → NumberAt s at n to → Holds f before n → Later n to → NumberFault s x at before f Later
 
 -- of the numbers in these ranges from a place on, the first at fault is refused with x
-unfoldable pub AtFault : List ℕ → Refusal → ℕ → List ℕ → List Range → Type 0
-AtFault s x at before [] = ⊥
-AtFault s x at before (f ∷ fs) = Fault s x at before f (λ n to. AtFault s x to (n ∷ before) fs)
+unfoldable pub NumbersFault : List ℕ → Refusal → ℕ → List ℕ → List Range → Type 0
+NumbersFault s x at before [] = ⊥
+NumbersFault s x at before (f ∷ fs) = NumberFault s x at before f (λ n to. NumbersFault s x to (n ∷ before) fs)
 
 -- the fixed bits of a header word: "bits 6-0 = 0001011", "21-20 = 00", "26-25 = 00", "Uncoupled needs 29-27 = 000; this and 111 there count
 -- as fixed bits"
@@ -130,13 +131,13 @@ pub data WordFault (w : ℕ) (x : Refusal) : Type 0 where
 
 -- an operation that cannot be read: its own number, one of those after it, or its header word once both numbers of open are read
 pub data Unread (s : List ℕ) (at : ℕ) (x : Refusal) : Type 0 where
-  which : AtFault s x at [] (between 1 5 ∷ []) → Unread s at x
-  field : (k to : ℕ) → NumberAt s at k to → (1 ≤ k) × (k ≤ 5) → AtFault s x to [] (fieldsOf k) → Unread s at x
+  which : NumbersFault s x at [] (between 1 5 ∷ []) → Unread s at x
+  field : (k to : ℕ) → NumberAt s at k to → (1 ≤ k) × (k ≤ 5) → NumbersFault s x to [] (fieldsOf k) → Unread s at x
   word : (p w q base to : ℕ) → NumberAt s at 1 p → NumberAt s p w q → NumberAt s q base to → base ≤ 1048576 → WordFault w x → Unread s at x
 
 -- a calculation that cannot be read
 abbrev pub UnreadCalculation : List ℕ → ℕ → Refusal → Type 0
-UnreadCalculation s at x = AtFault s x at [] calculationFields
+UnreadCalculation s at x = NumbersFault s x at [] calculationFields
 
 -- ---- operations
 

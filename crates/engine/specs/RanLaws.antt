@@ -19,7 +19,7 @@ use Rattle.engine.specs.Reasons.{CalculationRefused}
 use Rattle.engine.specs.ReasonLaws.{calculation-refused}
 use Rattle.engine.specs.TurnLaws.{Turned, turned-one}
 use Rattle.engine.specs.RoundLaws.{execute-turned}
-use Rattle.engine.specs.EntryLaws.{named-turns, entriesOf, calculationsOf, entries-calculations, entries-length, entries-world, entries-follow, Followed, followed}
+use Rattle.engine.specs.EntryLaws.{named-turns, entriesOf, entryCalculations, entries-calculations, entries-length, entries-world, entries-follow, Followed, followed}
 use Rattle.engine.specs.declared.run.Placed.{Placed}
 
 module _ (vl loop : ℕ) (body : List Placed) (w : World) (u : Running vl loop body (begun w)) (some : 1 ≤ length body) where
@@ -54,13 +54,13 @@ module _ (vl loop : ℕ) (body : List Placed) (w : World) (u : Running vl loop b
       n = entries-length vl w cs
 
   -- the calculations of a run that has a history are those of the body in turn
-  ran-turns : (r : Progress) (h : Ran vl loop body w r) (k : ℕ) → k < length (calculationsOf (h .entries))
-      → getD (calculationsOf (h .entries)) k noPlaced ≡ inTurn body k
+  ran-turns : (r : Progress) (h : Ran vl loop body w r) (k : ℕ) → k < length (entryCalculations (h .entries))
+      → getD (entryCalculations (h .entries)) k noPlaced ≡ inTurn body k
   ran-turns r h k p = h .turns k (omega (arith, length-map (h .entries) (λ (e : Entry). e .calculation)))
 
   -- they name registers
-  pub ran-named : (r : Progress) (h : Ran vl loop body w r) → AllNamed (calculationsOf (h .entries))
-  ran-named r h = named-turns body (calculationsOf (h .entries)) some (u .named) (ran-turns r h)
+  pub ran-named : (r : Progress) (h : Ran vl loop body w r) → AllNamed (entryCalculations (h .entries))
+  ran-named r h = named-turns body (entryCalculations (h .entries)) some (u .named) (ran-turns r h)
 
   -- none of them is refused, and its worlds and what it moved are theirs
   pub ran-followed : (r : Progress) (h : Ran vl loop body w r) → Followed vl w (h .entries) (r .world)
@@ -90,7 +90,7 @@ module _ (vl loop : ℕ) (body : List Placed) (w : World) (u : Running vl loop b
       es = h .entries
 
       cs : List Placed
-      cs = calculationsOf es
+      cs = entryCalculations es
 
       n : length cs ≡ length es
       n = length-map es (λ (e : Entry). e .calculation)

@@ -42,7 +42,7 @@ use Rattle.codec.specs.declared.operation.Body.the-variants as body
 use Rattle.codec.specs.declared.refusal.Refusal.{Refusal}
 use Rattle.codec.specs.declared.refusal.Refusal.the-variants.{OutOfRange, FixedBits, NotCarried}
 use Rattle.engine.specs.AllowedLaws.{fails, leb-plain, eqb-plain, and-plain, nonneg-plain}
-use Rattle.engine.specs.Promise1.{NumberAt, Range, fieldsOf, calculationFields, AtFault, FixedRight, BothClear, WordFault, Unread, UnreadCalculation, CouplingInRange, InRange, OperationAt, CalculationAt}
+use Rattle.engine.specs.Promise1.{NumberAt, Range, fieldsOf, calculationFields, NumbersFault, FixedRight, BothClear, WordFault, Unread, UnreadCalculation, CouplingInRange, InRange, OperationAt, CalculationAt}
 use Rattle.engine.specs.FieldLaws.{copy-plain, reads, Through, reads-fault, reads-through, reads-gives}
 
 -- ---- header words
@@ -209,13 +209,13 @@ module _ (s : List ℕ) (at : ℕ) (p : areBytes s) where
       kinds (reads-gives (at-place at) s p (λ ns to. operationNumbered s (at-place at) (getD ns 0 0) to) (decoded.Refused x place) at [] (Range.between 1 5 ∷ []) (sym (operation-reads s at) ∙ e))
     where
       fields : (k a : ℕ) → NumberAt s at k a → (1 ≤ k) × (k ≤ 5)
-          → ((y : Refusal) × AtFault s y a [] (fieldsOf k) × (decoded.Refused y at ≡ decoded.Refused x place))
+          → ((y : Refusal) × NumbersFault s y a [] (fieldsOf k) × (decoded.Refused y at ≡ decoded.Refused x place))
           ⊎ ((ns : List ℕ) × (to : ℕ) × Through s a [] (fieldsOf k) ns to × (endOf (at-place at) k ns to ≡ decoded.Refused x place))
           → (place ≡ at) × Unread s at x
       fields k a h r (inl (y, f, q)) = one x y place q (Unread.field k a h r f)
       fields k a h r (inr (ns, to, t, q)) = ends-refused x place k a ns to h r t q
 
-      kinds : ((y : Refusal) × AtFault s y at [] (Range.between 1 5 ∷ []) × (decoded.Refused y at ≡ decoded.Refused x place))
+      kinds : ((y : Refusal) × NumbersFault s y at [] (Range.between 1 5 ∷ []) × (decoded.Refused y at ≡ decoded.Refused x place))
           ⊎ ((ns : List ℕ) × (to : ℕ) × Through s at [] (Range.between 1 5 ∷ []) ns to × (operationNumbered s (at-place at) (getD ns 0 0) to ≡ decoded.Refused x place))
           → (place ≡ at) × Unread s at x
       kinds (inl (y, f, q)) = one x y place q (Unread.which f)
@@ -281,10 +281,10 @@ pub refused-uncalculated : (s : List ℕ) (at : ℕ) (x : Refusal) (place : ℕ)
 refused-uncalculated s at x place p e =
     go (reads-gives (λ x. body.Refused x at) s p ofNumbers (body.Refused x place) at [] calculationFields (sym (calculation-reads s at) ∙ e))
   where
-    go : ((y : Refusal) × AtFault s y at [] calculationFields × (body.Refused y at ≡ body.Refused x place))
+    go : ((y : Refusal) × NumbersFault s y at [] calculationFields × (body.Refused y at ≡ body.Refused x place))
         ⊎ ((ns : List ℕ) × (to : ℕ) × Through s at [] calculationFields ns to × (ofNumbers ns to ≡ body.Refused x place))
         → (place ≡ at) × UnreadCalculation s at x
-    go (inl (y, f, q)) = (cc, (let z : y ≡ x = cc in subst (λ u. AtFault s u at [] calculationFields) z f))
+    go (inl (y, f, q)) = (cc, (let z : y ≡ x = cc in subst (λ u. NumbersFault s u at [] calculationFields) z f))
     go (inr (ns, to, t, q)) = absurd (let z : _≡_ {A = ℕ} 0 1 = cc in omega arith)
 
 -- the numbers of a calculation in range
