@@ -42,7 +42,7 @@ use Rattle.engine.specs.ReasonLaws.{operation-refused}
 use Rattle.engine.specs.AllowedLaws.{fails, fits-allowed, accepts-clear, loops-on}
 use Rattle.engine.specs.Histories.{Ran}
 use Rattle.engine.specs.RanLaws.{execute-ran, ran-one}
-use Rattle.engine.specs.Promise1.{Unread, Configures, OperationAt, after, Turns, BodyAt, LoopsOn, RunAt, world, Before, Right, Encoded, Promise1}
+use Rattle.engine.specs.Promise1.{Unread, Configures, OperationAt, after, Turns, BodyAt, LoopsOn, RunAt, world, DoneBefore, Right, Encoded, Promise1}
 use Rattle.engine.specs.ReadingLaws.{read-written, unread-refused, refused-unread}
 use Rattle.engine.specs.StandLaws.{written-on, decoded-refused, onward-written, turns-onward, turns-snoc, turns-on, body-on, body-whole, body-broken, Breaks, body-either, turns-cut, bytes-cut, turns-bytes, body-bytes}
 use Rattle.engine.specs.declared.check.Why.{Why}
@@ -55,7 +55,7 @@ use Rattle.engine.specs.declared.run.Verdict.the-variants.{Done, Refused
 abbrev left : Machine → Ending → Prepared
 left m d = record { machine = m; ending = d }
 
-module _ (s : List ℕ) (p : areBytes s) (os : List Operation) (at : ℕ) (m : Machine) (t : Before s os at m) where
+module _ (s : List ℕ) (p : areBytes s) (os : List Operation) (at : ℕ) (m : Machine) (t : DoneBefore s os at m) where
   -- the operations of a sheet end as they do from a place on, once those before it are done
   prepared : (d : Ending) → onward s at m ≡ left m d → prepare s freshMachine ≡ left m d
   prepared d e = prepare-onward s freshMachine ∙ turns-onward s 0 freshMachine os at m p t ∙ e
@@ -103,7 +103,7 @@ pub record Runs (vl : ℕ) (s memory : List ℕ) (m : Machine) (loop : ℕ) (cs 
   pub some : 1 ≤ length cs
 
 -- such is one whose run is read whole, with no byte behind it and a right loop register
-pub sheet-runs : (vl : ℕ) (s memory : List ℕ) (p : areBytes s) (os : List Operation) (at : ℕ) (m : Machine) (loop : ℕ) (cs : List Placed) → Before s os at m
+pub sheet-runs : (vl : ℕ) (s memory : List ℕ) (p : areBytes s) (os : List Operation) (at : ℕ) (m : Machine) (loop : ℕ) (cs : List Placed) → DoneBefore s os at m
     → Fits vl (length memory) → RunAt s at loop cs (length s) → LoopsOn loop cs m → Runs vl s memory m loop cs
 sheet-runs vl s memory p os at m loop cs t f r l =
     let e : onward s at m ≡ left m (runs loop cs) = last-from s p os at m t loop cs true r (loops-on loop cs m .1 l) in
@@ -135,10 +135,10 @@ module _ (vl : ℕ) (s memory : List ℕ) (p : areBytes s) where
       (execute-ran vl loop cs (world m memory) (k .running) (k .some))
       ∙ sym (k .executes)
 
-  module _ (f : Fits vl (length memory)) (os : List Operation) (at : ℕ) (m : Machine) (t : Before s os at m) where
+  module _ (f : Fits vl (length memory)) (os : List Operation) (at : ℕ) (m : Machine) (t : DoneBefore s os at m) where
     -- no byte is left
     right-over : at ≡ length s → Right vl s memory (run vl s memory)
-    right-over e = Right.over f os m (subst (λ k. Before s os k m) e t) (answered s p os at m t vl memory over f (over-from s p os at m t e))
+    right-over e = Right.over f os m (subst (λ k. DoneBefore s os k m) e t) (answered s p os at m t vl memory over f (over-from s p os at m t e))
 
     -- a run, once its body is read: bytes after it, then 16
     right-run : (loop : ℕ) (cs : List Placed) (to : ℕ) → RunAt s at loop cs to → to ≤ length s → Right vl s memory (run vl s memory)
@@ -207,7 +207,7 @@ module _ (vl : ℕ) (s memory : List ℕ) (p : areBytes s) where
         go (decoded.Operation o c) e = operation o (c .at) (read-written s at o c p e)
 
   -- from any place on, once the operations before it are done
-  right-from : (n : ℕ) → Fits vl (length memory) → (os : List Operation) (at : ℕ) (m : Machine) → Before s os at m → at ≤ length s → length s - at ≤ n
+  right-from : (n : ℕ) → Fits vl (length memory) → (os : List Operation) (at : ℕ) (m : Machine) → DoneBefore s os at m → at ≤ length s → length s - at ≤ n
       → Right vl s memory (run vl s memory)
   right-from zero f os at m t h k = right-over f os at m t (omega arith)
   right-from (suc n) f os at m t h k =
@@ -255,13 +255,13 @@ encoded vl s memory r (Right.ran f os at m loop cs t w l h) v =
     (stands-all s _ (stands-join (b .2) (stands-join k (body-bytes s (w .from) cs (length s) (w .written .stands .within) (w .body)))))
 
 -- the operations before a place are done in the sheet that is cut there
-cut-done : (vl : ℕ) (s memory : List ℕ) → areBytes s → Fits vl (length memory) → (os : List Operation) (at : ℕ) (m : Machine) → Before s os at m
+cut-done : (vl : ℕ) (s memory : List ℕ) → areBytes s → Fits vl (length memory) → (os : List Operation) (at : ℕ) (m : Machine) → DoneBefore s os at m
     → run vl (take at s) memory ≡ begun (world m memory)
 cut-done vl s memory p f os at m t =
     let k = turns-on s 0 freshMachine os at m p (omega arith) t in
     let e : at ≡ length (take at s) = sym (length-take-le at s (k .1)) in
-    let c : Before (take at s) os at m = turns-cut s at 0 freshMachine os at m p (k .1) (omega arith) t in
-    sym (only vl (take at s) memory (bytes-cut s at p) (begun (world m memory)) (Right.over f os m (subst (λ n. Before (take at s) os n m) e c) refl))
+    let c : DoneBefore (take at s) os at m = turns-cut s at 0 freshMachine os at m p (k .1) (omega arith) t in
+    sym (only vl (take at s) memory (bytes-cut s at p) (begun (world m memory)) (Right.over f os m (subst (λ n. DoneBefore (take at s) os n m) e c) refl))
 
 -- Promise 1
 pub promise1 : (vl : ℕ) (s memory : List ℕ) → areBytes s → Promise1 vl s memory

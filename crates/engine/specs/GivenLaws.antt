@@ -28,7 +28,7 @@ use Rattle.engine.specs.Configure.{patterned, dimensioned, owned, modifi
 use Rattle.engine.specs.GoodLaws.{put-same, put-other}
 use Rattle.engine.specs.Allowed.{Accepts}
 use Rattle.engine.specs.Given.{Stream, filled, patternOf, Given, none, going, ended, withDimension, withModifier, withEnd, givenBy, givenFrom, givenFor}
-use Rattle.engine.specs.Promise1.{after, Turns, Before}
+use Rattle.engine.specs.Promise1.{after, Turns, DoneBefore}
 use Rattle.engine.specs.declared.stream.Modifier.{Modifier}
 use Rattle.engine.specs.declared.stream.Pattern.{Pattern}
 use Rattle.engine.specs.declared.register.State.{State}
@@ -234,5 +234,5 @@ turns-have s (o ∷ os) at to m n i g e h k =
     (after-has o m i g h (e .2) k)
 
 -- each of the 32 registers has what the operations before a place gave for it
-pub before-has : (s : List ℕ) (os : List Operation) (at : ℕ) (m : Machine) (i : ℕ) → Before s os at m → i < 32 → Has (givenFor i os) (reg m i)
+pub before-has : (s : List ℕ) (os : List Operation) (at : ℕ) (m : Machine) (i : ℕ) → DoneBefore s os at m → i < 32 → Has (givenFor i os) (reg m i)
 before-has s os at m i b h = turns-have s os 0 at freshMachine m i none b h (fresh-has i h)

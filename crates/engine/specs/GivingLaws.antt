@@ -26,7 +26,7 @@ use Rattle.engine.specs.Given.{Given, givenBy}
 use Rattle.engine.specs.GivenLaws.{Has, after-has, other-given}
 use Rattle.engine.specs.Offered.{checksGiven, offered}
 use Rattle.engine.specs.ReadingLaws.{in-range}
-use Rattle.engine.specs.Promise1.{Configures, InRange, after, Turns}
+use Rattle.engine.specs.Promise1.{Configures, OperationInRange, after, Turns}
 use Rattle.engine.specs.declared.check.Why.the-variants.{Nothing}
 use Rattle.engine.specs.declared.register.Machine.{Machine}
 
@@ -34,7 +34,7 @@ use Rattle.engine.specs.declared.register.Machine.{Machine}
 pub record Offers (i : ℕ) (g : Given) (o : Operation) : Type 0 where
   pub register : registerOf o ≡ i
   pub configures : Configures o
-  pub range : InRange o
+  pub range : OperationInRange o
   pub clear : firstOf (checksGiven o g) ≡ Nothing
 
 -- operations of register i that lead from g to h

@@ -5,7 +5,7 @@
 --   Streaming                a register whose stream has moved some elements
 --   InStep                   the three streams at one element
 --   AllInside                every element of all three lies inside memory
---   Chunks                   the chunks of a stream, one after the other
+--   StreamChunks             the chunks of a stream, one after the other
 --   chunkDone, chunksDone    memory after a chunk: all lanes of both sources read, then all stored; after chunks in order
 use Prim.Native.Nat.{ℕ, _+_, _*_, _≤_}
 use mathlib.Core.Path.{_≡_}
@@ -68,9 +68,9 @@ pub record AllInside (b : Three) (len : ℕ) (vs : List (List ℕ)) : Type 0 whe
   pub destination : AllLie len (b .width) (b .destination) vs
 
 -- the chunks of a stream from element n on, up to its end
-unfoldable pub Chunks : Shape → ℕ → ℕ → List (List (List ℕ)) → Type 0
-Chunks s lanes n [] = n ≡ length (elements s)
-Chunks s lanes n (vs ∷ gs) = (vs ≡ chunk s lanes n) × (1 ≤ length vs) × Chunks s lanes (n + length vs) gs
+unfoldable pub StreamChunks : Shape → ℕ → ℕ → List (List (List ℕ)) → Type 0
+StreamChunks s lanes n [] = n ≡ length (elements s)
+StreamChunks s lanes n (vs ∷ gs) = (vs ≡ chunk s lanes n) × (1 ≤ length vs) × StreamChunks s lanes (n + length vs) gs
 
 -- memory after one chunk: all lanes of both sources are read, then all are stored
 abbrev pub chunkDone : Three → List ℕ → List (List ℕ) → List ℕ

@@ -33,7 +33,7 @@ use Rattle.engine.specs.CalculationLaws.{not-refused}
 use Rattle.engine.specs.EffectLaws.{effect-reg, read-open, written-open, results-length, memory-length}
 use Rattle.engine.specs.EffectGood.{effect-good}
 use Rattle.engine.specs.Allowed.{Lies, AllLie}
-use Rattle.engine.specs.InStep.{Three, OneShape, Streaming, InStep, AllInside, Chunks, chunkDone, chunksDone}
+use Rattle.engine.specs.InStep.{Three, OneShape, Streaming, InStep, AllInside, StreamChunks, chunkDone, chunksDone}
 use Rattle.engine.specs.declared.check.Why.the-variants.{Nothing}
 use Rattle.engine.specs.declared.stream.Shape.{Shape}
 use Rattle.engine.specs.declared.stream.Pattern.{Pattern}
@@ -292,7 +292,7 @@ chunk-inside s lanes n len width p cov l k h =
 -- what a run over three streams in step leaves
 pub record StepsDone (vl : ℕ) (b : Three) (s : Shape) (n : ℕ) (memory : List ℕ) (r : Progress) : Type 0 where
   pub chunks : List (List (List ℕ))
-  pub are : Chunks s (vl / b .width) n chunks
+  pub are : StreamChunks s (vl / b .width) n chunks
   pub done : r .verdict ≡ Done
   pub memory-after : r .world .memory ≡ chunksDone b memory chunks
 
@@ -327,7 +327,7 @@ module _ (vl : ℕ) (b : Three) (s : Shape) (one : OneShape b s) (cov : Covers (
   -- the passes that are left
   steps : (f n : ℕ) (g : Progress) → g .verdict ≡ Done → Steps n (g .world) → n ≤ length (elements s) → length (elements s) ≤ f + n
       → AllInside b (length (g .world .memory)) (elements s) → StepsDone vl b s n (g .world .memory) (repeat vl loop (c ∷ []) f g)
-  unfolding repeat Chunks chunksDone elements
+  unfolding repeat StreamChunks chunksDone elements
   steps zero n g v t m k l = record { chunks = []; are = omega arith; done = v; memory-after = refl }
   steps (suc f) n g v t m k l = go (decLt n (length (elements s))) (steps f)
     where

@@ -5,7 +5,7 @@
 --   NumberFault, NumbersFault     a number at fault; the first of several
 --   WordFault                     a header word at fault
 --   Unread, UnreadCalculation     an operation, a calculation that cannot be read
---   InRange, OperationAt          an operation as it stands in the sheet
+--   OperationInRange, OperationAt   an operation as it stands in the sheet
 --   Turns                         operations done in turn
 --   CalculationAt, BodyAt         the calculations of a run as they stand in the sheet
 --   LoopsOn, RunAt                what 16 looks at; a run whose body is read whole
@@ -155,20 +155,20 @@ CouplingInRange Uncoupled = Unit {0}
 CouplingInRange (Coupled c) = (1 ≤ c) × (c ≤ 7)
 
 -- every number of an operation is in its range
-abbrev pub InRange : Operation → Type 0
-InRange (op.Open h base) =
+abbrev pub OperationInRange : Operation → Type 0
+OperationInRange (op.Open h base) =
     (h .register ≤ 31) × (CouplingInRange (h .coupling) × ((pos 0 ≤ℤ base .0) × (natAbs (base .0) ≤ 1048576)))
-InRange (op.Dimension d) =
+OperationInRange (op.Dimension d) =
     (d .register ≤ 31) × ((natAbs (d .offset .0) ≤ 1048576) × ((d .size ≤ 4096) × (natAbs (d .stride .0) ≤ 1048576)))
-InRange (op.Modifier m) = (m .register ≤ 31) × ((m .target ≤ 6) × (m .displacement ≤ 1048576))
-InRange (op.End i) = i ≤ 31
-InRange (op.Run i n) = (i ≤ 31) × ((1 ≤ n) × (n ≤ 16))
+OperationInRange (op.Modifier m) = (m .register ≤ 31) × ((m .target ≤ 6) × (m .displacement ≤ 1048576))
+OperationInRange (op.End i) = i ≤ 31
+OperationInRange (op.Run i n) = (i ≤ 31) × ((1 ≤ n) × (n ≤ 16))
 
 -- an operation stands at a place, in its one encoding; of a header word the bits 19-15 and 23-22 are free
 pub record OperationAt (s : List ℕ) (at : ℕ) (o : Operation) (to : ℕ) : Type 0 where
   pub free : ℕ
   pub is-free : isFree free
-  pub range : InRange o
+  pub range : OperationInRange o
   pub stands : Stands s at (operationBytes free o) to
 
 -- the machine after an operation that is not refused
@@ -217,34 +217,34 @@ abbrev pub world : Machine → List ℕ → World
 world m memory = record { machine = m; memory = memory }
 
 -- the operations before place `at`, done from 32 fresh registers
-abbrev pub Before : List ℕ → List Operation → ℕ → Machine → Type 0
-Before s os at m = Turns s 0 freshMachine os at m
+abbrev pub DoneBefore : List ℕ → List Operation → ℕ → Machine → Type 0
+DoneBefore s os at m = Turns s 0 freshMachine os at m
 
 -- the right answers of a sheet, case by case
 pub data Right (vl : ℕ) (s memory : List ℕ) (r : Progress) : Type 0 where
   -- "15 comes first", place 0
   lengths : ¬ Fits vl (length memory) → (x : Refusal) → numberOf x ≡ 15 → r ≡ refusedAt (world freshMachine memory) x 0 → Right vl s memory r
   -- no byte is left, and no run
-  over : Fits vl (length memory) → (os : List Operation) (m : Machine) → Before s os (length s) m → r ≡ begun (world m memory)
+  over : Fits vl (length memory) → (os : List Operation) (m : Machine) → DoneBefore s os (length s) m → r ≡ begun (world m memory)
       → Right vl s memory r
   -- an operation that cannot be read
-  unread : Fits vl (length memory) → (os : List Operation) (at : ℕ) (m : Machine) (x : Refusal) → Before s os at m → at < length s → Unread s at x
+  unread : Fits vl (length memory) → (os : List Operation) (at : ℕ) (m : Machine) (x : Refusal) → DoneBefore s os at m → at < length s → Unread s at x
       → r ≡ refusedAt (world m memory) x at → Right vl s memory r
   -- one that is refused, for the first thing wanted of it that is lacking: 5 to 9
-  refused : Fits vl (length memory) → (os : List Operation) (at : ℕ) (m : Machine) (o : Operation) (to : ℕ) (x : Refusal) → Before s os at m
+  refused : Fits vl (length memory) → (os : List Operation) (at : ℕ) (m : Machine) (o : Operation) (to : ℕ) (x : Refusal) → DoneBefore s os at m
       → OperationAt s at o to → OperationRefused o (reg m (registerOf o)) x → r ≡ refusedAt (world m memory) x at → Right vl s memory r
   -- a run, and a calculation of it that cannot be read
   broken : Fits vl (length memory) → (os : List Operation) (at : ℕ) (m : Machine) (loop count from : ℕ) (cs : List Placed) (place : ℕ) (x : Refusal)
-      → Before s os at m → OperationAt s at (op.Run loop count) from → BodyAt s from cs place → length cs < count → UnreadCalculation s place x
+      → DoneBefore s os at m → OperationAt s at (op.Run loop count) from → BodyAt s from cs place → length cs < count → UnreadCalculation s place x
       → r ≡ refusedAt (world m memory) x place → Right vl s memory r
   -- bytes after it
-  trailing : Fits vl (length memory) → (os : List Operation) (at : ℕ) (m : Machine) (loop : ℕ) (cs : List Placed) (to : ℕ) (x : Refusal) → Before s os at m
+  trailing : Fits vl (length memory) → (os : List Operation) (at : ℕ) (m : Machine) (loop : ℕ) (cs : List Placed) (to : ℕ) (x : Refusal) → DoneBefore s os at m
       → RunAt s at loop cs to → to < length s → numberOf x ≡ 2 → r ≡ refusedAt (world m memory) x to → Right vl s memory r
   -- 16
-  no-loop : Fits vl (length memory) → (os : List Operation) (at : ℕ) (m : Machine) (loop : ℕ) (cs : List Placed) (x : Refusal) → Before s os at m
+  no-loop : Fits vl (length memory) → (os : List Operation) (at : ℕ) (m : Machine) (loop : ℕ) (cs : List Placed) (x : Refusal) → DoneBefore s os at m
       → RunAt s at loop cs (length s) → ¬ LoopsOn loop cs m → numberOf x ≡ 16 → r ≡ refusedAt (world m memory) x at → Right vl s memory r
   -- a run
-  ran : Fits vl (length memory) → (os : List Operation) (at : ℕ) (m : Machine) (loop : ℕ) (cs : List Placed) → Before s os at m
+  ran : Fits vl (length memory) → (os : List Operation) (at : ℕ) (m : Machine) (loop : ℕ) (cs : List Placed) → DoneBefore s os at m
       → RunAt s at loop cs (length s) → LoopsOn loop cs m → Ran vl loop cs (world m memory) r → Right vl s memory r
 
 -- ---- a sheet that is done
@@ -267,8 +267,8 @@ AllFree (free ∷ frees) = isFree free × AllFree frees
 
 -- a sheet that is the encodings of the operations done, with no run or with one at its end
 pub data Encoded (s : List ℕ) : Type 0 where
-  over : (frees : List ℕ) (os : List Operation) (m : Machine) → AllFree frees → Before s os (length s) m → s ≡ encodings frees os → Encoded s
-  with-run : (frees : List ℕ) (os : List Operation) (at : ℕ) (m : Machine) (loop : ℕ) (cs : List Placed) → AllFree frees → Before s os at m → RunAt s at loop cs (length s)
+  over : (frees : List ℕ) (os : List Operation) (m : Machine) → AllFree frees → DoneBefore s os (length s) m → s ≡ encodings frees os → Encoded s
+  with-run : (frees : List ℕ) (os : List Operation) (at : ℕ) (m : Machine) (loop : ℕ) (cs : List Placed) → AllFree frees → DoneBefore s os at m → RunAt s at loop cs (length s)
       → s ≡ encodings frees os ++ (operationBytes 0 (op.Run loop (length cs)) ++ bodyBytes cs) → Encoded s
 
 -- ---- what is refused, and nothing else
@@ -298,7 +298,7 @@ pub record Promise1 (vl : ℕ) (s memory : List ℕ) : Type 0 where
   pub right : Right vl s memory (run vl s memory)
   pub only : (r : Progress) → Right vl s memory r → r ≡ run vl s memory
   -- what stands after a refusal is what the sheet cut at the first byte of the refused operation leaves
-  pub stands : Fits vl (length memory) → (os : List Operation) (at : ℕ) (m : Machine) → Before s os at m
+  pub stands : Fits vl (length memory) → (os : List Operation) (at : ℕ) (m : Machine) → DoneBefore s os at m
       → run vl (take at s) memory ≡ begun (world m memory)
   -- a sheet that is done is, from its first byte to its last, the encodings of what was read
   pub whole : run vl s memory .verdict ≡ Done → Encoded s

@@ -14,7 +14,7 @@ use Rattle.engine.specs.Sheets.{run}
 use Rattle.engine.specs.Allowed.{Fits}
 use Rattle.engine.specs.Histories.{worldAt, movedOf, Ran}
 use Rattle.engine.specs.Given.{Stream, patternOf, ended, givenFor, AtMoment}
-use Rattle.engine.specs.Promise1.{Before, RunAt, LoopsOn, world}
+use Rattle.engine.specs.Promise1.{DoneBefore, RunAt, LoopsOn, world}
 use Rattle.engine.specs.declared.register.Machine.{Machine}
 use Rattle.engine.specs.declared.run.Placed.{Placed}
 use Rattle.engine.specs.declared.run.Verdict.the-variants.{Done}
@@ -36,7 +36,7 @@ pub record Streams (vl : ℕ) (os : List Operation) (m : Machine) (memory : List
 -- promise 2 for a vector length, a sheet and a memory: each element once, at every moment
 pub record Promise2 (vl : ℕ) (s memory : List ℕ) : Type 0 where
   -- while the sheet configures
-  pub prepared : (os : List Operation) (at : ℕ) (m : Machine) → Before s os at m → Unmoved os m
+  pub prepared : (os : List Operation) (at : ℕ) (m : Machine) → DoneBefore s os at m → Unmoved os m
   -- while it runs
-  pub runs : Fits vl (length memory) → (os : List Operation) (at : ℕ) (m : Machine) (loop : ℕ) (cs : List Placed) → Before s os at m
+  pub runs : Fits vl (length memory) → (os : List Operation) (at : ℕ) (m : Machine) (loop : ℕ) (cs : List Placed) → DoneBefore s os at m
       → RunAt s at loop cs (length s) → LoopsOn loop cs m → Streams vl os m memory loop cs (run vl s memory)

@@ -42,7 +42,7 @@ use Rattle.codec.specs.declared.operation.Body.the-variants as body
 use Rattle.codec.specs.declared.refusal.Refusal.{Refusal}
 use Rattle.codec.specs.declared.refusal.Refusal.the-variants.{OutOfRange, FixedBits, NotCarried}
 use Rattle.engine.specs.AllowedLaws.{fails, leb-plain, eqb-plain, and-plain, nonneg-plain}
-use Rattle.engine.specs.Promise1.{NumberAt, Range, fieldsOf, calculationFields, NumbersFault, FixedRight, BothClear, WordFault, Unread, UnreadCalculation, CouplingInRange, InRange, OperationAt, CalculationAt}
+use Rattle.engine.specs.Promise1.{NumberAt, Range, fieldsOf, calculationFields, NumbersFault, FixedRight, BothClear, WordFault, Unread, UnreadCalculation, CouplingInRange, OperationInRange, OperationAt, CalculationAt}
 use Rattle.engine.specs.FieldLaws.{copy-plain, reads, Through, reads-fault, reads-through, reads-gives}
 
 -- ---- header words
@@ -225,7 +225,7 @@ module _ (s : List ℕ) (at : ℕ) (p : areBytes s) where
           (sym (kind-reads s (at-place at) k a) ∙ (λ i. operationNumbered s (at-place at) (getD (z i) 0 0) (y i)) ∙ q))
 
 -- an operation whose numbers are in range
-pub in-range : (o : Operation) → (operationInRange o ≡ true) ↔ InRange o
+pub in-range : (o : Operation) → (operationInRange o ≡ true) ↔ OperationInRange o
 unfolding operationInRange
 in-range (op.Open h b) =
     let t = and-plain _ _ (and-plain _ _ (leb-plain (h .register) 31) (coupling (h .coupling))) (and-plain _ _ (nonneg-plain (b .0)) (leb-plain (natAbs (b .0)) 1048576)) in

@@ -64,7 +64,7 @@ chunks-plain m few len (vs ∷ gs) memory i h =
 
 module _ (m : Nest) (covers : Covers (m .loops) (couplingOf (m .coupled))) (lanes : ℕ) where
   -- the chunks of the streams are those of the visits
-  pub chunks-nest : (n : ℕ) (gs : List (List (List ℕ))) → step.Chunks (shapeOf m) lanes n gs → Chunks m lanes n gs
+  pub chunks-nest : (n : ℕ) (gs : List (List (List ℕ))) → step.StreamChunks (shapeOf m) lanes n gs → Chunks m lanes n gs
   unfolding Chunks
   chunks-nest n [] c = chunks-over (shapeOf m) lanes n c ∙ ap length (visits-elements m)
   chunks-nest n (vs ∷ gs) c =

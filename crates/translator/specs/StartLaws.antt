@@ -22,7 +22,7 @@ use Rattle.engine.specs.Given.{Stream, none, ended}
 use Rattle.engine.specs.GivenLaws.{Has, fresh-has}
 use Rattle.engine.specs.Offered.{ended-streaming}
 use Rattle.engine.specs.InStep.{Streaming}
-use Rattle.engine.specs.Promise1.{RunAt, Before}
+use Rattle.engine.specs.Promise1.{RunAt, DoneBefore}
 use Rattle.engine.specs.ReadingLaws.{in-range}
 use Rattle.engine.specs.StandLaws.{turns-append, body-one}
 use Rattle.engine.specs.GivingLaws.{Leads, leads-bytes, DoneInTurn, leads-done}
@@ -61,7 +61,7 @@ pub record Started (m : Nest) : Type 0 where
   pub bytes : areBytes (sheetOf m)
   pub machine : Machine
   pub place : ℕ
-  pub before : Before (sheetOf m) (sheetOps m) place machine
+  pub before : DoneBefore (sheetOf m) (sheetOps m) place machine
   pub from : ℕ
   pub run-at : RunAt (sheetOf m) place 1 (body m from ∷ []) (length (sheetOf m))
   pub streams : (a : Role) → Streams m a machine
@@ -182,7 +182,7 @@ module _ (m : Nest) (ac : Accepted m) where
   last = turned3 .machine
 
   -- all operations, in turn
-  in-turn : Before (sheetOf m) (sheetOps m) at3 last
+  in-turn : DoneBefore (sheetOf m) (sheetOps m) at3 last
   in-turn =
       turns-append (sheetOf m) 0 freshMachine (ops first) at1 (turned1 .machine) (ops second ++ ops destination) at3 last (turned1 .turns)
       (turns-append (sheetOf m) at1 (turned1 .machine) (ops second) at2 (turned2 .machine) (ops destination) at3 last (turned2 .turns) (turned3 .turns))
