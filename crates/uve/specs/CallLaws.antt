@@ -1,6 +1,6 @@
 -- What follows of calls.
 --
---   Ran, unrun, ran                  a run's answer, memory and report: with a short report, and with one long enough
+--   RunCalled, unrun, ran            a run's answer, memory and report: with a short report, and with one long enough
 --   run-number, run-behind           a number of the report, read back; the bytes behind them
 --   Translates, untranslated, translates   a translation's answer, room and report, alike
 --   translation-length, translate-behind   three numbers; the bytes behind them
@@ -28,18 +28,18 @@ use Rattle.uve.specs.ReportLaws.{report-length, report-bytes}
 -- ---- a run: vector length, sheet, memory and report at the call
 
 -- the answer, the memory and the report after a call
-abbrev pub Ran : ℕ → List ℕ → List ℕ → List ℕ → ℕ → List ℕ → List ℕ → Type 0
-Ran vl s m b r m' b' = (r ≡ runAnswer vl s m b) × ((m' ≡ runMemory vl s m b) × (b' ≡ runReport vl s m b))
+abbrev pub RunCalled : ℕ → List ℕ → List ℕ → List ℕ → ℕ → List ℕ → List ℕ → Type 0
+RunCalled vl s m b r m' b' = (r ≡ runAnswer vl s m b) × ((m' ≡ runMemory vl s m b) × (b' ≡ runReport vl s m b))
 
 module _ (vl : ℕ) (s m b : List ℕ) where
   -- a short report
-  pub unrun : length b < 3712 → Ran vl s m b unanswered m b
+  pub unrun : length b < 3712 → RunCalled vl s m b unanswered m b
   unfolding runAnswer runMemory runReport
   unrun h = let e = lt-ltb (length b) 3712 h in (rw e, (rw e, rw e))
 
   -- one long enough: what the engine answered
   pub ran : 3712 ≤ length b → (p : Progress) → p ≡ run vl s m
-      → Ran vl s m b (numberGiven (p .verdict)) (p .world .memory) (sets b 0 (bytesOf64 (reportOf p)))
+      → RunCalled vl s m b (numberGiven (p .verdict)) (p .world .memory) (sets b 0 (bytesOf64 (reportOf p)))
   unfolding runAnswer runMemory runReport
   ran h p q = let e = le-ltb (length b) 3712 h in (rw (e, q), (rw (e, q), rw (e, q)))
 
