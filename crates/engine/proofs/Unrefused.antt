@@ -1,12 +1,14 @@
 -- What is refused, and nothing else: the proof.
 --
---   unrefused    "not refused" exactly if the plain conditions hold; refused by the first check that applies; a refused one alters nothing
+--   unrefused    "not refused" exactly if the plain conditions hold; refused by the first check that applies, with its
+--                 number; a refused one alters nothing
 use Rattle.engine.specs.Configure.{whyNot, configured}
 use Rattle.engine.specs.GoodLaws.{first-because, because-first}
 use Rattle.engine.specs.AllowedLaws.{fits-allowed, accepts-clear, loops-on}
 use Rattle.engine.specs.StepLaws.{step-refused}
 use Rattle.engine.specs.RanLaws.{refused-first}
 use Rattle.engine.specs.CalculatesLaws.{calculates-clear}
+use Rattle.engine.specs.FaultLaws.{wrong, amiss}
 use Rattle.engine.specs.Promise1.{Unrefused}
 
 -- what is refused, and nothing else
@@ -19,6 +21,8 @@ unrefused = record {
   calculation = calculates-clear;
   operation-refused = λ o m x. (first-because _ x, because-first _ x);
   calculation-refused = refused-first;
+  operation-number = amiss;
+  calculation-number = wrong;
   operation-kept = λ o m x e. rw e;
   calculation-kept = step-refused;
 }

@@ -193,7 +193,7 @@ covers-clear s Uncoupled = (λ e. tt, λ h. refl)
 covers-clear s (Coupled c) = (ltb-false (s .dims) c, le-ltb (s .dims) c)
 
 -- a number that is not 0
-some : (n : ℕ) → (eqb n 0 ≡ false) ↔ (1 ≤ n)
+pub some : (n : ℕ) → (eqb n 0 ≡ false) ↔ (1 ≤ n)
 some n = (λ e. there n (eqb-false n 0 e), λ h. ne-eqb n 0 (λ q. omega arith))
   where
     there : (n : ℕ) → (n ≡ 0 → ⊥) → 1 ≤ n

@@ -98,7 +98,7 @@ sink-clear r = (λ h. there (r .state) (r .kind) refl refl (h .0) (h .1) (h .2),
     back (Sink.store p q) = (ap isConfiguring p, ap isFinished p, λ i. isOpen (p i) && isLoad (q i))
 
 -- a check of a store stream: one that is open
-store-clear : (d : Register) (b : Bool) → Sink d → ((openStore d && b) ≡ false) ↔ (d .state ≡ Open → b ≡ false)
+pub store-clear : (d : Register) (b : Bool) → Sink d → ((openStore d && b) ≡ false) ↔ (d .state ≡ Open → b ≡ false)
 store-clear d b (Sink.plain p) = (
   λ e o. absurd (let z : _≡_ {A = State} Plain Open = sym p ∙ o in let y : _≡_ {A = ℕ} 0 1 = cc in omega arith),
   λ h. ap (λ k. (isOpen k && not (isLoad (d .kind))) && b) p,

@@ -66,6 +66,9 @@ pub mod Offered
 pub mod Promise2
 pub mod AllowedLaws
 pub mod CalculatesLaws
+pub mod Faults
+pub mod FaultLaws
+pub mod EmptyLaws
 pub mod FieldLaws
 pub mod ReadingLaws
 pub mod StandLaws
@@ -73,6 +76,7 @@ pub mod GivingLaws
 pub mod SameLoops
 pub mod InOrderLaws
 pub mod Table
+pub mod Samples
 pub mod Outlines
 pub mod OutlineLaws
 pub mod Rows

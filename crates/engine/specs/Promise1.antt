@@ -40,6 +40,7 @@ use Rattle.engine.specs.Run.{Progress, begun, step}
 use Rattle.engine.specs.Sheets.{isLoopRegister, allowed, refusedAt, run}
 use Rattle.engine.specs.GoodLaws.{First}
 use Rattle.engine.specs.Allowed.{Fits, Accepts, Calculates}
+use Rattle.engine.specs.Faults.{WrongIn, Amiss}
 use Rattle.engine.specs.Histories.{noPlaced, checksIn, Ran}
 use Rattle.engine.specs.declared.check.Why.the-variants.{Nothing, Because}
 use Rattle.engine.specs.declared.register.State.the-variants.{Open, Finished}
@@ -274,6 +275,9 @@ pub record Unrefused : Type 0 where
   -- refused: by the first of the ordered checks that applies
   pub operation-refused : (o : Operation) (m : Machine) (x : Refusal) → (whyNot o m ≡ Because x) ↔ First (checksFor o (reg m (registerOf o))) x
   pub calculation-refused : (vl : ℕ) (c : Calculation) (w : World) (x : Refusal) → (refusalOf vl c w ≡ Because x) ↔ First (checksIn vl c w) x
+  -- so with the number of the first thing that is wrong, in plain terms
+  pub operation-number : (o : Operation) (m : Machine) (x : Refusal) → whyNot o m ≡ Because x → Amiss o (reg m (registerOf o)) (numberOf x)
+  pub calculation-number : (vl : ℕ) (c : Calculation) (w : World) (x : Refusal) → refusalOf vl c w ≡ Because x → WrongIn vl c w (numberOf x)
   -- a refused one alters nothing
   pub operation-kept : (o : Operation) (m : Machine) (x : Refusal) → whyNot o m ≡ Because x → configured o m ≡ m
   pub calculation-kept : (vl : ℕ) (c : Placed) (g : Progress) (x : Refusal) → refusalOf vl (c .calculation) (g .world) ≡ Because x

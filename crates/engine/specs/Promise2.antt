@@ -2,19 +2,22 @@
 -- opened anew: what has moved and what is to come are the loop's elements, in order, each once.
 --
 --   Prepared, Streams    streams before the run; streams at every moment of it
+--   Empty, AllEmpty      registers before any calculation
 --   Promise2
 use Prim.Native.Nat.{ℕ, _≤_, _<_}
 use mathlib.Core.Path.{_≡_}
 use mathlib.Core.List.{List, []}
-use lib.ListN.{length, take}
+use lib.ListN.{length, take, replicate}
 use Rattle.codec.specs.declared.operation.Operation.{Operation}
 use Rattle.engine.specs.Loops.{elements}
+use Rattle.engine.specs.Registers.{reg}
 use Rattle.engine.specs.Run.{Progress}
 use Rattle.engine.specs.Sheets.{run}
 use Rattle.engine.specs.Allowed.{Fits}
 use Rattle.engine.specs.Histories.{worldAt, movedOf, Ran}
 use Rattle.engine.specs.Given.{Stream, patternOf, ended, givenFor, AtMoment}
 use Rattle.engine.specs.Promise1.{Before, RunAt, LoopsOn, world}
+use Rattle.engine.specs.declared.register.Register.{Register}
 use Rattle.engine.specs.declared.register.Machine.{Machine}
 use Rattle.engine.specs.declared.run.Placed.{Placed}
 use Rattle.engine.specs.declared.run.Verdict.the-variants.{Done}
@@ -22,6 +25,15 @@ use Rattle.engine.specs.declared.run.Verdict.the-variants.{Done}
 -- the streams that the operations os ended, and that were not opened anew, nothing moved yet
 abbrev pub Prepared : List Operation → Machine → Type 0
 Prepared os m = (i : ℕ) → i < 32 → (t : Stream) → givenFor i os ≡ ended t → AtMoment t [] m i
+
+-- "no valid lanes and all bytes zero"
+pub record Empty (r : Register) : Type 0 where
+  pub valid : r .valid ≡ 0
+  pub lanes : r .lanes ≡ replicate 64 0
+
+-- each of the 32 registers is so: fresh, being configured, ended
+abbrev pub AllEmpty : Machine → Type 0
+AllEmpty m = (i : ℕ) → i < 32 → Empty (reg m i)
 
 -- the same streams at every moment k of a run: the elements that its first k calculations moved, joined, have moved
 pub record Streams (vl : ℕ) (os : List Operation) (m : Machine) (memory : List ℕ) (loop : ℕ) (cs : List Placed) (r : Progress) : Type 0 where
@@ -37,6 +49,7 @@ pub record Streams (vl : ℕ) (os : List Operation) (m : Machine) (memory : List
 pub record Promise2 (vl : ℕ) (s memory : List ℕ) : Type 0 where
   -- while the sheet configures
   pub prepared : (os : List Operation) (at : ℕ) (m : Machine) → Before s os at m → Prepared os m
+  pub empty : (os : List Operation) (at : ℕ) (m : Machine) → Before s os at m → AllEmpty m
   -- while it runs
   pub runs : Fits vl (length memory) → (os : List Operation) (at : ℕ) (m : Machine) (loop : ℕ) (cs : List Placed) → Before s os at m
       → RunAt s at loop cs (length s) → LoopsOn loop cs m → Streams vl os m memory loop cs (run vl s memory)
