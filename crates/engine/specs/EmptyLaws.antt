@@ -2,9 +2,10 @@
 --
 --   applied-empty, turns-empty, before-empty   every register that a sheet's operations leave is empty
 --   moved-content              a stream that moves on leaves its register's content as it is: a store's "stays so"
+--   holding-width, holding-contents   a register that takes lanes has their width, and gives them
 --   lanewise-at                lane k is of lane k of both sources, in this order
 --   stored-last                "writes them in lane order": the last lane is written last
-use Prim.Native.Nat.{ℕ, zero, suc, _<_}
+use Prim.Native.Nat.{ℕ, zero, suc, _*_, _^_, _≤_, _<_}
 use mathlib.Core.Path.{_≡_, refl, sym, subst}
 use mathlib.Core.List.{List, [], _∷_, _++_}
 use native.Mathlib.Omega.{arith}
@@ -12,11 +13,12 @@ use lib.ListN.{length, getD, getD-replicate}
 use lib.Seq.{sets}
 use Rattle.codec.specs.declared.operation.Operation.{Operation}
 use Rattle.codec.specs.declared.operation.Operation.the-variants as op
-use Rattle.engine.specs.Memory.{spot, littleEndian, stored}
+use Rattle.engine.specs.Memory.{spot, littleEndian, stored, contents, holding}
 use Rattle.engine.specs.Lanes.{lanewise}
 use Rattle.engine.specs.Registers.{fresh, noRegister, movedTo, movedBy, freshMachine, reg}
 use Rattle.engine.specs.Configure.{registerOf, applied}
 use Rattle.engine.specs.GoodLaws.{set-each}
+use Rattle.engine.specs.PackedLaws.{lanes-packed}
 use Rattle.engine.specs.Promise1.{InRange, Turns, Before, after}
 use Rattle.engine.specs.Promise2.{Empty, AllEmpty}
 use Rattle.engine.specs.declared.stream.Pattern.{Pattern}
@@ -64,6 +66,17 @@ before-empty s os at m b =
 -- a stream that moves on leaves its register's content: "a store stream's register stays so"
 pub moved-content : (n : ℕ) (r : Register) → (movedTo n r .valid ≡ r .valid) × (movedTo n r .lanes ≡ r .lanes)
 moved-content n r = (refl, refl)
+
+-- "takes the lanes and width"
+pub holding-width : (width : ℕ) (xs : List ℕ) (r : Register) → holding width xs r .width ≡ width
+unfolding holding
+holding-width width xs r = refl
+
+-- lanes that a register took are those that it gives
+pub holding-contents : (width : ℕ) (xs : List ℕ) (r : Register) → ((k : ℕ) → getD xs k 0 < 2 ^ (8 * width)) → length xs * width ≤ 64
+    → contents (holding width xs r) ≡ xs
+unfolding holding
+holding-contents width xs r h p = lanes-packed width xs h p
 
 -- lane k is the operation of lane k of the first source and lane k of the second, in this order
 pub lanewise-at : (f : ℕ → ℕ → ℕ) (xs ys : List ℕ) (k : ℕ) → k < length xs → k < length ys

@@ -8,7 +8,7 @@
 use Prim.Native.Nat.{ℕ}
 use mathlib.Core.Path.{_≡_, refl}
 use mathlib.Core.List.{List, [], _∷_, _++_, map}
-use lib.ListN.{drop, replicate}
+use lib.ListN.{take, drop, replicate}
 use lib.IntN.{pos}
 use Rattle.codec.specs.Numbers.{groupsAt, numberAt, signedOf}
 use Rattle.codec.specs.Headers.{headerSaid, headerOf}
@@ -26,6 +26,7 @@ use Rattle.engine.specs.Configure.{whyNot, configured}
 use Rattle.engine.specs.Run.{pass, repeat}
 use Rattle.engine.specs.Sheets.{bodyAt, names, operationsFrom, run}
 use Rattle.engine.specs.Table.{done, refusal, answerOf, answer, register, prepared, addresses, copies, grown, triangle, words, twice, bytes}
+use Rattle.engine.specs.declared.register.Register.{Register}
 
 -- ---- sheets
 
@@ -93,7 +94,7 @@ unfolding operated between outcome
 operations = (refl, refl, refl, refl, refl, refl, refl)
 
 -- the bytes of registers: of an open load before it moves; of a store that has written, "stays so"; of a plain destination that took 8
--- lanes and then 4, zeros behind; of a finished load, its last chunk; of a fresh one
+-- lanes and then 4, zeros behind; of a finished load, its last chunk; of a fresh one. Registers 0 to 3 stand in this order
 pub contents-left :
     (register 1 (prepared triangle) .lanes ≡ replicate 64 0)
     × (register 3 (run 8 (operated 1) between .world .machine) .lanes ≡ replicate 64 0)
@@ -101,6 +102,7 @@ pub contents-left :
     × (register 2 (run 8 twice (bytes 0 20) .world .machine) .lanes ≡ bytes 16 4 ++ replicate 60 0)
     × (register 1 (run 8 twice (bytes 0 20) .world .machine) .lanes ≡ bytes 16 4 ++ replicate 60 0)
     × (register 31 (run 8 twice (bytes 0 20) .world .machine) .lanes ≡ replicate 64 0)
+    × (map (λ (r : Register). r .valid) (take 4 (run 8 twice (bytes 0 20) .world .machine .registers)) ≡ 0 ∷ 4 ∷ 4 ∷ 8 ∷ [])
     × (register 2 (run 16 (words ++ copies) (bytes 0 40) .world .machine) .lanes ≡ (0x24 ∷ 0x25 ∷ 0x26 ∷ 0x27 ∷ []) ++ replicate 60 0)
 unfolding operated between register prepared copies grown triangle words twice bytes
     groupsAt numberAt signedOf headerSaid headerOf openAt dimensionAt modifierAt endAt runAt operationAt calculationAt
@@ -108,7 +110,7 @@ unfolding operated between register prepared copies grown triangle words twice b
     addressUpTo valueAt littleEndian stored lanesFrom joined holding lanewise
     given results allInside refusalOf readFrom writtenTo memoryAfter effect
     firstOf nextChunk movedBy toCome whyNot configured pass repeat bodyAt names operationsFrom
-contents-left = (refl, refl, refl, refl, refl, refl, refl)
+contents-left = (refl, refl, refl, refl, refl, refl, refl, refl)
 
 -- bytes: dimension 1 of a size, dimension 2 of n rows, size modifiers of dimension 1; end
 unfoldable pub resized : List ℕ → ℕ → List ℕ → List ℕ
