@@ -22,7 +22,7 @@ use Rattle.engine.specs.GivenLaws.{Inside, Has, before-has}
 use Rattle.engine.specs.MomentLaws.{inside-finished, inside-moment}
 use Rattle.engine.specs.MovingLaws.{world-last, follow-inside}
 use Rattle.engine.specs.RanLaws.{ran-named, execute-ran}
-use Rattle.engine.specs.EmptyLaws.{before-empty}
+use Rattle.engine.specs.ContentLaws.{before-empty}
 use Rattle.engine.proofs.Promise1.{sheet-runs}
 use Rattle.engine.specs.Promise1.{Before, LoopsOn, world}
 use Rattle.engine.specs.Promise2.{Streams, Promise2}

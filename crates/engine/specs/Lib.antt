@@ -68,7 +68,7 @@ pub mod AllowedLaws
 pub mod CalculatesLaws
 pub mod Faults
 pub mod FaultLaws
-pub mod EmptyLaws
+pub mod ContentLaws
 pub mod FieldLaws
 pub mod ReadingLaws
 pub mod StandLaws
@@ -79,6 +79,7 @@ pub mod Table
 pub mod Samples
 pub mod Outlines
 pub mod OutlineLaws
+pub mod AnswerLaws
 pub mod Rows
 pub mod RowLaws
 pub mod Stretches
