@@ -8,7 +8,7 @@ use Rattle.engine.specs.AllowedLaws.{fits-allowed, accepts-clear, loops-
 use Rattle.engine.specs.StepLaws.{step-refused}
 use Rattle.engine.specs.RanLaws.{refused-first}
 use Rattle.engine.specs.CalculatesLaws.{calculates-clear}
-use Rattle.engine.specs.FaultLaws.{wrong, amiss}
+use Rattle.engine.specs.FaultLaws.{wrong, amiss, flag-untold, flag-told, end-untold, end-told}
 use Rattle.engine.specs.Promise1.{Unrefused}
 
 -- what is refused, and nothing else
@@ -23,6 +23,10 @@ unrefused = record {
   calculation-refused = refused-first;
   operation-number = amiss;
   calculation-number = wrong;
+  flag-untold = flag-untold;
+  flag-told = flag-told;
+  end-untold = end-untold;
+  end-told = end-told;
   operation-kept = λ o m x e. rw e;
   calculation-kept = step-refused;
 }

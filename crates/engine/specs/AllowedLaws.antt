@@ -275,7 +275,7 @@ which-names loop (c ∷ cs) (suc k) h = go (eqb loop (c .calculation .first) || 
     go false e = e
 
 -- an open or finished stream
-stream-plain : (k : State) → ((isOpen k || isFinished k) ≡ true) ↔ ((k ≡ Open) ⊎ (k ≡ Finished))
+pub stream-plain : (k : State) → ((isOpen k || isFinished k) ≡ true) ↔ ((k ≡ Open) ⊎ (k ≡ Finished))
 stream-plain k = (there k, back)
   where
     there : (k : State) → (isOpen k || isFinished k) ≡ true → (k ≡ Open) ⊎ (k ≡ Finished)

@@ -4,6 +4,7 @@
 --   source-met, sink-met    a source, a destination
 --   wrong                   a calculation
 --   amiss                   an operation that configures
+--   flag-untold, flag-told, end-untold, end-told   a question: its number if it is refused, what holds if it is told
 use Prim.Native.Nat.{ℕ, _+_, _≤_, _<_}
 use mathlib.Core.Path.{_≡_, refl, sym, _∙_, ap}
 use mathlib.Core.Logic.{_⊎_, inl, inr, ⊎-elim, _↔_}
@@ -27,12 +28,16 @@ use Rattle.engine.specs.Registers.{isConfiguring, isOpen, isFinished, is
 use Rattle.engine.specs.Configure.{openChecks, dimensionChecks, modifierChecks, uncovered, endChecks, registerOf, whyNot}
 use Rattle.engine.specs.Calculate.{World, outside, sourceChecks, destinationChecks, checksOn, refusalOf}
 use Rattle.engine.specs.Checks.{Check, _if_, firstOf}
-use Rattle.engine.specs.AllowedLaws.{neither, is-configuring, opens-clear, low-high, covers-clear, some as not-none}
+use Rattle.engine.specs.Questions.{flagChecks, endOfStreamChecks, yesOrNo, unless, askFlag, askEnd}
+use Rattle.engine.specs.GoodLaws.{next}
+use Rattle.engine.specs.AllowedLaws.{neither, is-configuring, low-high, covers-clear, some as not-none, stream-plain}
 use Rattle.engine.specs.CalculatesLaws.{outside-lie, store-clear}
 use Rattle.engine.specs.Allowed.{Opens, Source, Sink}
-use Rattle.engine.specs.Faults.{NoSource, NoSink, SameWidths, SameLanes, AllInside, Wrong, WrongIn, NoOpen, NoDimension, NoModifier, Complete, Kept, NoEnd, Amiss}
+use Rattle.engine.specs.Faults.{NoSource, NoSink, SameWidths, SameLanes, AllInside, Wrong, WrongIn, NoOpen, NoDimension, NoModifier, Complete, Kept, NoEnd, Amiss, Asks, HasStream, NoFlag, TellsFlag, NoTelling, TellsEnd}
 use Rattle.engine.specs.declared.check.Why.{Why}
 use Rattle.engine.specs.declared.check.Why.the-variants.{Nothing, Because}
+use Rattle.engine.specs.declared.check.Told.{Told}
+use Rattle.engine.specs.declared.check.Told.the-variants.{Yes, No, Untold}
 use Rattle.engine.specs.declared.stream.Shape.{Shape}
 use Rattle.engine.specs.declared.register.State.{State}
 use Rattle.engine.specs.declared.register.State.the-variants.{Plain, Configuring, Open, Finished}
@@ -267,3 +272,75 @@ amiss (op.Dimension d) m x e = dimension-amiss (reg m (d .register)) x e
 amiss (op.Modifier d) m x e = modifier-amiss (d .target) (reg m (d .register)) x e
 amiss (op.End i) m x e = end-amiss (reg m i) x e
 amiss (op.Run i n) m x e = none x e
+
+-- ---- a question
+
+-- one that is not told was refused
+refused-why : (w : Why) (b : Bool) (x : Refusal) → unless w b ≡ Untold x → w ≡ Because x
+refused-why Nothing true x e = absurd (let z : _≡_ {A = ℕ} 0 1 = cc in omega arith)
+refused-why Nothing false x e = absurd (let z : _≡_ {A = ℕ} 0 1 = cc in omega arith)
+refused-why (Because y) b x e = let z : y ≡ x = cc in ap Because z
+
+-- one that is told was not
+told-why : (w : Why) (b : Bool) → (unless w b ≡ Yes) ⊎ (unless w b ≡ No) → w ≡ Nothing
+told-why Nothing b e = refl
+told-why (Because y) b (inl e) = absurd (let z : _≡_ {A = ℕ} 0 1 = cc in omega arith)
+told-why (Because y) b (inr e) = absurd (let z : _≡_ {A = ℕ} 0 1 = cc in omega arith)
+
+-- a register and a dimension in range, by their test
+asks : (i d : ℕ) → ((ltb 31 i || eqb d 0 || ltb 7 d) ≡ false) ↔ Asks i d
+asks i d = (
+  λ e.
+      let a = or-false (ltb 31 i || eqb d 0) (ltb 7 d) e in
+      let b = or-false (ltb 31 i) (eqb d 0) (a .0) in
+      record { register = ltb-false 31 i (b .0); least = not-none d .0 (b .1); most = ltb-false 7 d (a .1) },
+  λ k. neither _ _ (neither _ _ (le-ltb 31 i (k .register)) (not-none d .1 (k .least))) (le-ltb 7 d (k .most)),
+)
+
+-- a stream that is there, by its test
+streams : (r : Register) → not (isOpen (r .state) || isFinished (r .state)) ≡ false → HasStream r
+streams r e = stream-plain (r .state) .0 (not-false _ e)
+
+-- one that is not
+no-stream : (r : Register) → not (isOpen (r .state) || isFinished (r .state)) ≡ true → ¬ HasStream r
+no-stream r t h = not-so t (ap not (stream-plain (r .state) .1 h))
+
+-- a flag that is not told
+pub flag-untold : (m : Machine) (i d : ℕ) (x : Refusal) → askFlag m i d ≡ Untold x → NoFlag i d (reg m i) (numberOf x)
+unfolding askFlag
+flag-untold m i d x e =
+    ⊎-elim (λ f. NoFlag.range (f .1) (λ a. not-so (f .0) (asks i d .1 a)))
+    (λ f.
+    ⊎-elim (λ g. NoFlag.state (g .1) (asks i d .0 (f .0)) (no-stream (reg m i) (g .0)))
+    (λ g.
+    ⊎-elim
+    (λ h. NoFlag.lacking (h .1) (asks i d .0 (f .0)) (streams (reg m i) (g .0)) (ltb-true (shapeOf (reg m i) .dims) d (h .0)))
+    (λ h. none x (h .1)) (met _ _ _ x (g .1)))
+    (met _ _ _ x (f .1)))
+    (met _ _ _ x (refused-why (firstOf (flagChecks i d (reg m i))) _ x e))
+
+-- one that is
+pub flag-told : (m : Machine) (i d : ℕ) → (askFlag m i d ≡ Yes) ⊎ (askFlag m i d ≡ No) → TellsFlag i d (reg m i)
+unfolding askFlag
+flag-told m i d e =
+    let a = next _ _ _ (told-why (firstOf (flagChecks i d (reg m i))) _ e) in
+    let b = next _ _ _ (a .1) in
+    let c = next _ _ _ (b .1) in
+    record { asks = asks i d .0 (a .0); stream = streams (reg m i) (b .0); dimension = ltb-false (shapeOf (reg m i) .dims) d (c .0) }
+
+-- an end of stream that is not told
+pub end-untold : (m : Machine) (i : ℕ) (x : Refusal) → askEnd m i ≡ Untold x → NoTelling i (reg m i) (numberOf x)
+unfolding askEnd
+end-untold m i x e =
+    ⊎-elim (λ f. NoTelling.range (f .1) (ltb-true 31 i (f .0)))
+    (λ f.
+    ⊎-elim (λ g. NoTelling.state (g .1) (ltb-false 31 i (f .0)) (no-stream (reg m i) (g .0))) (λ g. none x (g .1)) (met _ _ _ x (f .1)))
+    (met _ _ _ x (refused-why (firstOf (endOfStreamChecks i (reg m i))) _ x e))
+
+-- one that is
+pub end-told : (m : Machine) (i : ℕ) → (askEnd m i ≡ Yes) ⊎ (askEnd m i ≡ No) → TellsEnd i (reg m i)
+unfolding askEnd
+end-told m i e =
+    let a = next _ _ _ (told-why (firstOf (endOfStreamChecks i (reg m i))) _ e) in
+    let b = next _ _ _ (a .1) in
+    record { register = ltb-false 31 i (a .0); stream = streams (reg m i) (b .0) }

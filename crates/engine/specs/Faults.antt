@@ -5,8 +5,10 @@
 --   SameWidths, SameLanes, AllInside   what 12, 13 and 14 ask
 --   Wrong, WrongIn               what is wrong with a calculation
 --   NoOpen, NoDimension, NoModifier, NoEnd, Amiss   what is wrong with an operation that configures
+--   Asks, HasStream, NoFlag, TellsFlag, NoTelling, TellsEnd   what is wrong with a question; what is asked of one that is told
 use Prim.Native.Nat.{ℕ, _+_, _≤_, _<_}
 use mathlib.Core.Path.{_≡_}
+use mathlib.Core.Logic.{_⊎_}
 use lib.ListN.{length, take}
 use lib.IntN.{pos}
 use lib.Signed.{_≤ℤ_}
@@ -114,3 +116,38 @@ Amiss (op.Dimension d) r k = NoDimension r k
 Amiss (op.Modifier m) r k = NoModifier (m .target) r k
 Amiss (op.End i) r k = NoEnd r k
 Amiss (op.Run i n) r k = ⊥
+
+-- ---- a question
+
+-- a register of 0 to 31 and a dimension of 1 to 7
+pub record Asks (i d : ℕ) : Type 0 where
+  pub register : i ≤ 31
+  pub least : 1 ≤ d
+  pub most : d ≤ 7
+
+-- neither plain nor being configured
+abbrev pub HasStream : Register → Type 0
+HasStream r = (r .state ≡ Open) ⊎ (r .state ≡ Finished)
+
+-- "refused with 2 for a register above 31 or a dimension not 1 to 7, then 5 for a plain or configuring register, then 2 for a dimension the
+-- stream lacks"
+pub data NoFlag (i d : ℕ) (r : Register) (k : ℕ) : Type 0 where
+  range : k ≡ 2 → ¬ Asks i d → NoFlag i d r k
+  state : k ≡ 5 → Asks i d → ¬ HasStream r → NoFlag i d r k
+  lacking : k ≡ 2 → Asks i d → HasStream r → shapeOf r .dims < d → NoFlag i d r k
+
+-- a flag that is told, yes or no
+pub record TellsFlag (i d : ℕ) (r : Register) : Type 0 where
+  pub asks : Asks i d
+  pub stream : HasStream r
+  pub dimension : d ≤ shapeOf r .dims
+
+-- the end of stream: "the same refusals without the dimension's"
+pub data NoTelling (i : ℕ) (r : Register) (k : ℕ) : Type 0 where
+  range : k ≡ 2 → 31 < i → NoTelling i r k
+  state : k ≡ 5 → i ≤ 31 → ¬ HasStream r → NoTelling i r k
+
+-- one that is told
+pub record TellsEnd (i : ℕ) (r : Register) : Type 0 where
+  pub register : i ≤ 31
+  pub stream : HasStream r

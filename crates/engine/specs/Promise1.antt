@@ -35,14 +35,16 @@ use Rattle.codec.specs.declared.operation.Calculation.{Calculation}
 use Rattle.codec.specs.declared.refusal.Refusal.{Refusal}
 use Rattle.engine.specs.Registers.{freshMachine, reg, put}
 use Rattle.engine.specs.Configure.{registerOf, checksFor, applied, whyNot, configured}
+use Rattle.engine.specs.Questions.{askFlag, askEnd}
 use Rattle.engine.specs.Calculate.{World, refusalOf}
 use Rattle.engine.specs.Run.{Progress, begun, step}
 use Rattle.engine.specs.Sheets.{isLoopRegister, allowed, refusedAt, run}
 use Rattle.engine.specs.GoodLaws.{First}
 use Rattle.engine.specs.Allowed.{Fits, Accepts, Calculates}
-use Rattle.engine.specs.Faults.{WrongIn, Amiss}
+use Rattle.engine.specs.Faults.{WrongIn, Amiss, NoFlag, TellsFlag, NoTelling, TellsEnd}
 use Rattle.engine.specs.Histories.{noPlaced, checksIn, Ran}
 use Rattle.engine.specs.declared.check.Why.the-variants.{Nothing, Because}
+use Rattle.engine.specs.declared.check.Told.the-variants.{Yes, No, Untold}
 use Rattle.engine.specs.declared.register.State.the-variants.{Open, Finished}
 use Rattle.engine.specs.declared.register.Machine.{Machine}
 use Rattle.engine.specs.declared.run.Placed.{Placed}
@@ -278,6 +280,11 @@ pub record Unrefused : Type 0 where
   -- so with the number of the first thing that is wrong, in plain terms
   pub operation-number : (o : Operation) (m : Machine) (x : Refusal) → whyNot o m ≡ Because x → Amiss o (reg m (registerOf o)) (numberOf x)
   pub calculation-number : (vl : ℕ) (c : Calculation) (w : World) (x : Refusal) → refusalOf vl c w ≡ Because x → WrongIn vl c w (numberOf x)
+  -- both questions: a refused one by its number, one that is told by what it asks
+  pub flag-untold : (m : Machine) (i d : ℕ) (x : Refusal) → askFlag m i d ≡ Untold x → NoFlag i d (reg m i) (numberOf x)
+  pub flag-told : (m : Machine) (i d : ℕ) → (askFlag m i d ≡ Yes) ⊎ (askFlag m i d ≡ No) → TellsFlag i d (reg m i)
+  pub end-untold : (m : Machine) (i : ℕ) (x : Refusal) → askEnd m i ≡ Untold x → NoTelling i (reg m i) (numberOf x)
+  pub end-told : (m : Machine) (i : ℕ) → (askEnd m i ≡ Yes) ⊎ (askEnd m i ≡ No) → TellsEnd i (reg m i)
   -- a refused one alters nothing
   pub operation-kept : (o : Operation) (m : Machine) (x : Refusal) → whyNot o m ≡ Because x → configured o m ≡ m
   pub calculation-kept : (vl : ℕ) (c : Placed) (g : Progress) (x : Refusal) → refusalOf vl (c .calculation) (g .world) ≡ Because x
