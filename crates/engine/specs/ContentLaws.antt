@@ -1,12 +1,13 @@
 -- What registers hold before any calculation, and what moving and writing leave.
 --
 --   applied-empty, turns-empty, before-empty   every register that a sheet's operations leave is empty
+--   turns-kept, before-fresh   one that they do not name is fresh
 --   moved-content              a stream that moves on leaves its register's content as it is: a store's "stays so"
 --   holding-width, holding-contents   a register that takes lanes has their width, and gives them
 --   lanewise-at                lane k is of lane k of both sources, in this order
 --   stored-last                "writes them in lane order": the last lane is written last
 use Prim.Native.Nat.{ℕ, zero, suc, _*_, _^_, _≤_, _<_}
-use mathlib.Core.Path.{_≡_, refl, sym, subst}
+use mathlib.Core.Path.{_≡_, refl, sym, _∙_, ap, subst}
 use mathlib.Core.List.{List, [], _∷_, _++_}
 use native.Mathlib.Omega.{arith}
 use lib.ListN.{length, getD, getD-replicate}
@@ -17,10 +18,10 @@ use Rattle.engine.specs.Memory.{spot, littleEndian, stored, contents, ho
 use Rattle.engine.specs.Lanes.{lanewise}
 use Rattle.engine.specs.Registers.{fresh, noRegister, movedTo, movedBy, freshMachine, reg}
 use Rattle.engine.specs.Configure.{registerOf, applied}
-use Rattle.engine.specs.GoodLaws.{set-each}
+use Rattle.engine.specs.GoodLaws.{set-each, put-other}
 use Rattle.engine.specs.PackedLaws.{lanes-packed}
 use Rattle.engine.specs.Promise1.{InRange, Turns, Before, after}
-use Rattle.engine.specs.Promise2.{Empty, AllEmpty}
+use Rattle.engine.specs.Promise2.{Empty, AllEmpty, Unnamed, Fresh}
 use Rattle.engine.specs.declared.stream.Pattern.{Pattern}
 use Rattle.engine.specs.declared.register.Register.{Register}
 use Rattle.engine.specs.declared.register.Machine.{Machine}
@@ -60,6 +61,20 @@ pub before-empty : (s : List ℕ) (os : List Operation) (at : ℕ) (m : Machine)
 before-empty s os at m b =
     turns-empty s os 0 at freshMachine m
     (λ i h. subst Empty (sym (getD-replicate 32 i fresh noRegister h)) (record { valid = refl; lanes = refl })) b
+
+-- a register that no operation names stays as it is
+turns-kept : (s : List ℕ) (os : List Operation) (at to : ℕ) (m n : Machine) (i : ℕ) → Unnamed i os → Turns s at m os to n → reg n i ≡ reg m i
+unfolding Turns Unnamed
+turns-kept s [] at to m n i u t = ap (λ k. reg k i) (sym (t .1))
+turns-kept s (o ∷ os) at to m n i u t =
+    turns-kept s os (t .0) to (after o m) n i (u .1) (t .3)
+    ∙ put-other m (registerOf o) i (applied o (reg m (registerOf o))) (λ e. u .0 (sym e))
+
+-- so it is fresh
+pub before-fresh : (s : List ℕ) (os : List Operation) (at : ℕ) (m : Machine) → Before s os at m → (i : ℕ) → i < 32 → Unnamed i os → Fresh (reg m i)
+before-fresh s os at m b i h u =
+    subst Fresh (sym (turns-kept s os 0 at freshMachine m i u b ∙ getD-replicate 32 i fresh noRegister h))
+    (record { plain = refl; width = refl; empty = record { valid = refl; lanes = refl } })
 
 -- ---- moving and writing
 
