@@ -277,9 +277,9 @@ pub record Unrefused : Type 0 where
   -- refused: by the first of the ordered checks that applies
   pub operation-refused : (o : Operation) (m : Machine) (x : Refusal) → (whyNot o m ≡ Because x) ↔ First (checksFor o (reg m (registerOf o))) x
   pub calculation-refused : (vl : ℕ) (c : Calculation) (w : World) (x : Refusal) → (refusalOf vl c w ≡ Because x) ↔ First (checksIn vl c w) x
-  -- so with the number of the first thing that is wrong, in plain terms
-  pub operation-number : (o : Operation) (m : Machine) (x : Refusal) → whyNot o m ≡ Because x → Amiss o (reg m (registerOf o)) (numberOf x)
-  pub calculation-number : (vl : ℕ) (c : Calculation) (w : World) (x : Refusal) → refusalOf vl c w ≡ Because x → WrongIn vl c w (numberOf x)
+  -- so exactly if its number is that of the first thing wrong, in plain terms
+  pub operation-number : (o : Operation) (m : Machine) (x : Refusal) → (whyNot o m ≡ Because x) ↔ Amiss o (reg m (registerOf o)) (numberOf x)
+  pub calculation-number : (vl : ℕ) (c : Calculation) (w : World) (x : Refusal) → (refusalOf vl c w ≡ Because x) ↔ WrongIn vl c w (numberOf x)
   -- both questions: a refused one by its number, one that is told by what it asks
   pub flag-untold : (m : Machine) (i d : ℕ) (x : Refusal) → askFlag m i d ≡ Untold x → NoFlag i d (reg m i) (numberOf x)
   pub flag-told : (m : Machine) (i d : ℕ) → (askFlag m i d ≡ Yes) ⊎ (askFlag m i d ≡ No) → TellsFlag i d (reg m i)
