@@ -22,6 +22,8 @@ use Rattle.engine.specs.Memory.{valueAt, littleEndian, lanesFrom, joined
 use Rattle.engine.specs.ByteLaws.{Bytewise, length-little}
 use Rattle.engine.specs.PackedLaws.{length-lanes, zeros, joined-lanes, packed-front, packed-lanes}
 use Rattle.engine.specs.Lanes.{lanewise}
+use Rattle.engine.specs.EffectLaws.{lanewise-length}
+use Rattle.engine.specs.ContentLaws.{lanewise-at}
 use Rattle.engine.specs.Stretches.{progression, allWithin, fetchedAt, storedAt}
 use Rattle.engine.proofs.ByteSteps.{sets-append}
 use Rattle.engine.proofs.PlaceSteps.{inside-room}
@@ -261,19 +263,6 @@ module _ (len w : ℕ) (a step : ℤ) (n : ℕ) (h : 1 ≤ n) (e : step ≡ pos 
 
 -- ---- lanes combined
 
-length-lanewise : (f : ℕ → ℕ → ℕ) (xs ys : List ℕ) → length xs ≡ length ys → length (lanewise f xs ys) ≡ length xs
-unfolding lanewise
-length-lanewise f [] ys e = refl
-length-lanewise f (x ∷ xs) [] e = absurd (omega arith)
-length-lanewise f (x ∷ xs) (y ∷ ys) e = ap suc (length-lanewise f xs ys (omega arith))
-
-lanewise-at : (f : ℕ → ℕ → ℕ) (xs ys : List ℕ) (k : ℕ) → k < length xs → k < length ys → getD (lanewise f xs ys) k 0 ≡ f (getD xs k 0) (getD ys k 0)
-unfolding lanewise
-lanewise-at f [] ys k p q = absurd (omega arith)
-lanewise-at f (x ∷ xs) [] k p q = absurd (omega arith)
-lanewise-at f (x ∷ xs) (y ∷ ys) zero p q = refl
-lanewise-at f (x ∷ xs) (y ∷ ys) (suc k) p q = lanewise-at f xs ys k (omega arith) (omega arith)
-
 lanewise-first : (f : ℕ → ℕ → ℕ) → ((x y : ℕ) → f x y ≡ x) → (xs ys : List ℕ) → length xs ≡ length ys → lanewise f xs ys ≡ xs
 unfolding lanewise
 lanewise-first f h [] ys e = refl
@@ -289,7 +278,7 @@ module _ (f : ℕ → ℕ → ℕ) (first second : List ℕ) (w n : ℕ) where
   same-count = length-lanes first w 0 n ∙ sym (length-lanes second w 0 n)
 
   length-combined : length combined ≡ n
-  length-combined = length-lanewise f (lanesFrom first w 0 n) (lanesFrom second w 0 n) same-count ∙ length-lanes first w 0 n
+  length-combined = lanewise-length f (lanesFrom first w 0 n) (lanesFrom second w 0 n) same-count ∙ length-lanes first w 0 n
 
   -- one lane more
   pub combined-more : (k : ℕ) {x : ℕ} {lanes after : List ℕ} → k < n → k * w + w ≤ 64 → x ≡ f (valueAt first (k * w) w) (valueAt second (k * w) w)
