@@ -21,7 +21,7 @@ use Rattle.codec.specs.declared.header.Header.{Header}
 use Rattle.codec.specs.declared.header.Word.the-variants.{Said, Refused}
 use Rattle.codec.specs.declared.refusal.Refusal.the-variants.{FixedBits, NotCarried}
 use Rattle.codec.specs.TestLaws.{both, either}
-use Rattle.codec.specs.Headers.{bitsOf, fixedBits, carriedBits, widthCoded, headerSaid, headerOf, couplingInRange, headerInRange, kindCode, widthCode, couplingCode, wordOf, freeBits}
+use Rattle.codec.specs.Headers.{bitsOf, fixedBits, clearBits, widthCoded, headerSaid, headerOf, couplingInRange, headerInRange, kindCode, widthCode, couplingCode, wordOf, freeBits}
 
 -- a coupled dimension in range
 pub coupled-range : (d : ℕ) → (leb 1 d && leb d 7) ≡ true → (1 ≤ d) × (d ≤ 7)
@@ -196,8 +196,8 @@ fixed-laid w r width kind c l =
     )
 
 -- a word put together of its fields has neither m nor inds set
-carried-laid : (w r width kind d coupled : ℕ) → Laid w r width kind d coupled → carriedBits w ≡ true
-carried-laid w r width kind d coupled l = rw (inds-24 w r width kind d coupled l, m-31 w r width kind d coupled l)
+clear-laid : (w r width kind d coupled : ℕ) → Laid w r width kind d coupled → clearBits w ≡ true
+clear-laid w r width kind d coupled l = rw (inds-24 w r width kind d coupled l, m-31 w r width kind d coupled l)
 
 -- a word put together of a header's fields says that header
 said-laid : (w : ℕ) (h : Header) → headerInRange h ≡ true
@@ -221,17 +221,17 @@ pub header-written : (h : Header) (free : ℕ) → headerInRange h ≡ true → 
 unfolding headerOf
 header-written h free e f =
     let l = laid h free e f in
-    rw (fixed-laid (wordOf h + free) _ _ _ (h .coupling) l, carried-laid (wordOf h + free) _ _ _ _ _ l, said-laid (wordOf h + free) h e l)
+    rw (fixed-laid (wordOf h + free) _ _ _ (h .coupling) l, clear-laid (wordOf h + free) _ _ _ _ _ l, said-laid (wordOf h + free) h e l)
 
 -- ---- read, then written
 
 -- a word that was not refused has its fixed bits right, neither m nor inds set, and says its header
-said : (w : ℕ) (h : Header) → headerOf w ≡ Said h → (fixedBits w ≡ true) × (carriedBits w ≡ true) × (headerSaid w ≡ h)
+said : (w : ℕ) (h : Header) → headerOf w ≡ Said h → (fixedBits w ≡ true) × (clearBits w ≡ true) × (headerSaid w ≡ h)
 unfolding headerOf
-said w h e = go (fixedBits w) (carriedBits w) refl refl e
+said w h e = go (fixedBits w) (clearBits w) refl refl e
   where
-    go : (f c : Bool) → fixedBits w ≡ f → carriedBits w ≡ c → cond f (cond c (Said (headerSaid w)) (Refused NotCarried)) (Refused FixedBits) ≡ Said h
-        → (fixedBits w ≡ true) × (carriedBits w ≡ true) × (headerSaid w ≡ h)
+    go : (f c : Bool) → fixedBits w ≡ f → clearBits w ≡ c → cond f (cond c (Said (headerSaid w)) (Refused NotCarried)) (Refused FixedBits) ≡ Said h
+        → (fixedBits w ≡ true) × (clearBits w ≡ true) × (headerSaid w ≡ h)
     go true true p q z = (p, q, (cc))
     go true false p q z = absurd (let z : _≡_ {A = ℕ} 0 1 = cc in omega arith)
     go false c p q z = absurd (let z : _≡_ {A = ℕ} 0 1 = cc in omega arith)
@@ -330,7 +330,7 @@ record Fixed (w : ℕ) : Type 0 where
   uncoupled : (eqb (bitsOf 30 1 w) 1 || eqb (bitsOf 27 3 w) 0) ≡ true
 
 -- a word that neither 3 nor 4 refuses has each of these bits right
-fixed-parts : (w : ℕ) → fixedBits w ≡ true → carriedBits w ≡ true → Fixed w
+fixed-parts : (w : ℕ) → fixedBits w ≡ true → clearBits w ≡ true → Fixed w
 fixed-parts w f c =
     let p4 = both _ _ f in
     let p3 = both _ _ (p4 .0) in

@@ -1,7 +1,7 @@
 -- Header words (document 001, as 01 has them).
 --
 --   bitsOf                       some bits of a word
---   fixedBits, carriedBits       what refusals 3 and 4 look at
+--   fixedBits, clearBits         what refusals 3 and 4 look at
 --   kindOf, widthOf, couplingOf  what the bits say
 --   headerOf                     a word read
 --   headerInRange                what can be written
@@ -33,9 +33,9 @@ fixedBits w =
     && not (eqb (bitsOf 27 3 w) 7)
     && (eqb (bitsOf 30 1 w) 1 || eqb (bitsOf 27 3 w) 0)
 
--- "24 inds", "31 m": neither is set
-abbrev pub carriedBits : ℕ → Bool
-carriedBits w = eqb (bitsOf 24 1 w) 0 && eqb (bitsOf 31 1 w) 0
+-- "24 inds", "31 m": both are clear
+abbrev pub clearBits : ℕ → Bool
+clearBits w = eqb (bitsOf 24 1 w) 0 && eqb (bitsOf 31 1 w) 0
 
 -- "14-12 kind and width (000 to 011 store B, H, W, D; 100 to 111 load)": bit 14
 abbrev pub kindOf : ℕ → Kind
@@ -48,7 +48,7 @@ widthCoded (suc zero) = H
 widthCoded (suc (suc zero)) = W
 widthCoded (suc (suc (suc n))) = D
 
--- bits 13-12
+-- "14-12 kind and width": the width that bits 13-12 code
 abbrev pub widthOf : ℕ → Width
 widthOf w = widthCoded (bitsOf 12 2 w)
 
@@ -63,13 +63,13 @@ bytesOf D = 8
 abbrev pub couplingOf : ℕ → Coupling
 couplingOf w = cond (eqb (bitsOf 30 1 w) 1) (Coupled (bitsOf 27 3 w + 1)) Uncoupled
 
--- "11-7 the register"
+-- what a word says: its kind, its width, "11-7 the register" and its coupling
 unfoldable pub headerSaid : ℕ → Header
 headerSaid w = record { kind = kindOf w; width = widthOf w; register = bitsOf 7 5 w; coupling = couplingOf w }
 
 -- 3 for the fixed bits, then 4 for m or inds
 unfoldable pub headerOf : ℕ → Word
-headerOf w = cond (fixedBits w) (cond (carriedBits w) (Said (headerSaid w)) (Refused NotCarried)) (Refused FixedBits)
+headerOf w = cond (fixedBits w) (cond (clearBits w) (Said (headerSaid w)) (Refused NotCarried)) (Refused FixedBits)
 
 -- a coupled dimension is 1 to 7
 abbrev pub couplingInRange : Coupling → Bool
@@ -92,7 +92,7 @@ widthCode H = 1
 widthCode W = 2
 widthCode D = 3
 
--- bits 30 and 29-27
+-- "29-27 coupled dimension less one, 30 coupled": what these bits are worth in the word of a coupling
 abbrev pub couplingCode : Coupling → ℕ
 couplingCode Uncoupled = 0
 couplingCode (Coupled d) = 1073741824 + (d - 1) * 134217728

@@ -1,10 +1,11 @@
 -- Numbers in groups of seven bits.
 --
 --   above                  a group below the groups that follow it
---   groupsAt, numberAt     reading a number at a place
---   signedOf, signedAt     reading a signed number
+--   groupsAt, notTooLong, numberAt   reading a number at a place
+--   signedOf, asSigned, signedAt     reading a signed number
 --   groupsOf, numberBytes  the groups of a number
 --   unsignedOf             how a signed number is written
+--   valueOf                the value of an answer
 use Prim.Native.Nat.{ℕ, zero, suc, _+_, _-_, _*_, _%_, _/_}
 use mathlib.Core.List.{List, [], _∷_}
 use mathlib.Core.Bool.{cond}

@@ -45,7 +45,7 @@ use Rattle.codec.specs.Headers.{headerOf, headerInRange, wordOf, freeBit
 use Rattle.codec.specs.TestLaws.{both, and-both}
 use Rattle.codec.specs.RangeLaws.{reach-small}
 use Rattle.codec.specs.HeaderLaws.{isFree, free-none, free-bits, word-below, header-written, header-read}
-use Rattle.codec.specs.Operations.{field, signedField, anyNumber, upTo, isRegister, isBase, isSize, isReach, isDisplacement, isCount, parameterCoded, behaviourCoded, actionCoded, opened, openAt, dimensionAt, modifierAt, endAt, runAt, kindAt, operationAt, isSecond, calculationAt, parameterCode, behaviourCode, actionCode, baseInRange, operationInRange, signedBytes, operationBytes, calculationInRange, calculationBytes}
+use Rattle.codec.specs.Operations.{field, signedField, anyNumber, upTo, isRegister, isBase, isSize, isReach, isDisplacement, isCount, parameterCoded, behaviourCoded, actionCoded, openOf, openAt, dimensionAt, modifierAt, endAt, runAt, operationNumbered, operationAt, isSecond, calculationAt, parameterCode, behaviourCode, actionCode, baseInRange, operationInRange, signedBytes, operationBytes, calculationInRange, calculationBytes}
 
 -- ---- written, then read
 
@@ -379,7 +379,7 @@ action-there (suc (suc (suc (suc (suc (suc zero)))))) e = refl
 action-there (suc (suc (suc (suc (suc (suc (suc n))))))) e = omega (arith, leb-true (suc (suc (suc (suc (suc (suc (suc n))))))) 7 e)
 
 -- a header word that was not refused
-opened-good : (w : Word) (place base to : ℕ) (o : Operation) (c : Cursor) → opened (λ x. decoded.Refused x place) w base to ≡ decoded.Operation o c
+opened-good : (w : Word) (place base to : ℕ) (o : Operation) (c : Cursor) → openOf (λ x. decoded.Refused x place) w base to ≡ decoded.Operation o c
     → (h : Header) × (w ≡ word.Said h) × (decoded.Operation (op.Open h (record { 0 = pos base })) (record { at = to }) ≡ decoded.Operation o c)
 opened-good (word.Refused x) place base to o c e = absurd (not-refused place o c x e)
 opened-good (word.Said h) place base to o c e = (h, refl, e)
@@ -483,7 +483,7 @@ module _ (s : List ℕ) (place at : ℕ) (o : Operation) (c : Cursor) (p : areBy
       (stands-join (stands-join k (number-read s at (f .v) (f .c) p (f .got))) (number-read s (f .c .at) (g .v) (g .c) p (g .got))))
 
   -- an operation of any kind that was read stands as it is written, free bits aside
-  kind-read : (kind : ℕ) → Stands s place (numberBytes kind) at → kindAt s (λ x. decoded.Refused x place) kind at ≡ decoded.Operation o c → Decoding s place o (c .at)
+  kind-read : (kind : ℕ) → Stands s place (numberBytes kind) at → operationNumbered s (λ x. decoded.Refused x place) kind at ≡ decoded.Operation o c → Decoding s place o (c .at)
   kind-read zero k e = absurd (not-refused place o c OutOfRange e)
   kind-read (suc zero) k e = open-read k e
   kind-read (suc (suc zero)) k e = dimension-read k e

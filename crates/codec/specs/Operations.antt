@@ -48,7 +48,7 @@ abbrev pub signedField : {A : Type 0} → (Refusal → A) → Signed → (ℤ �
 signedField refused NoWhole allowed next = refused BadNumber
 signedField refused (Whole z c) allowed next = cond (allowed z) (next z (c .at)) (refused OutOfRange)
 
--- any number is allowed: the kind of an operation and a header word are judged once they are read
+-- any number is allowed: the number of an operation and a header word are judged once they are read
 abbrev pub anyNumber : ℕ → Bool
 anyNumber v = true
 
@@ -102,17 +102,17 @@ actionCoded (suc (suc (suc (suc (suc zero))))) = action.Xor
 actionCoded (suc (suc (suc (suc (suc (suc zero)))))) = action.Smaller
 actionCoded (suc (suc (suc (suc (suc (suc (suc n))))))) = action.Larger
 
--- a header word, once both numbers of open are read: 3 and 4
-abbrev pub opened : (Refusal → Decoded) → Word → ℕ → ℕ → Decoded
-opened refused (word.Refused x) base at = refused x
-opened refused (word.Said h) base at = decoded.Operation (op.Open h (record { 0 = pos base })) (record { at = at })
+-- the open operation of a header word and a base, once both are read: a word is refused with 3, then 4
+abbrev pub openOf : (Refusal → Decoded) → Word → ℕ → ℕ → Decoded
+openOf refused (word.Refused x) base at = refused x
+openOf refused (word.Said h) base at = decoded.Operation (op.Open h (record { 0 = pos base })) (record { at = at })
 
 -- "1 open: header word, base"
 unfoldable pub openAt : List ℕ → (Refusal → Decoded) → ℕ → Decoded
 openAt s refused at =
     field refused (numberAt s at) anyNumber λ w at.
     field refused (numberAt s at) isBase λ base at.
-    opened refused (headerOf w) base at
+    openOf refused (headerOf w) base at
 
 -- "2 dimension: register, offset (signed), size, stride (signed)"
 unfoldable pub dimensionAt : List ℕ → (Refusal → Decoded) → ℕ → Decoded
@@ -155,19 +155,19 @@ runAt s refused at =
     field refused (numberAt s at) isCount λ count at.
     decoded.Operation (op.Run register count) (record { at = at })
 
--- the operation of a kind; kinds are 1 to 5
-abbrev pub kindAt : List ℕ → (Refusal → Decoded) → ℕ → ℕ → Decoded
-kindAt s refused zero at = refused OutOfRange
-kindAt s refused (suc zero) at = openAt s refused at
-kindAt s refused (suc (suc zero)) at = dimensionAt s refused at
-kindAt s refused (suc (suc (suc zero))) at = modifierAt s refused at
-kindAt s refused (suc (suc (suc (suc zero)))) at = endAt s refused at
-kindAt s refused (suc (suc (suc (suc (suc zero))))) at = runAt s refused at
-kindAt s refused (suc (suc (suc (suc (suc (suc n)))))) at = refused OutOfRange
+-- the operation that has a number, 1 to 5, its other numbers read from a place on; 2 for an "unknown operation"
+abbrev pub operationNumbered : List ℕ → (Refusal → Decoded) → ℕ → ℕ → Decoded
+operationNumbered s refused zero at = refused OutOfRange
+operationNumbered s refused (suc zero) at = openAt s refused at
+operationNumbered s refused (suc (suc zero)) at = dimensionAt s refused at
+operationNumbered s refused (suc (suc (suc zero))) at = modifierAt s refused at
+operationNumbered s refused (suc (suc (suc (suc zero)))) at = endAt s refused at
+operationNumbered s refused (suc (suc (suc (suc (suc zero))))) at = runAt s refused at
+operationNumbered s refused (suc (suc (suc (suc (suc (suc n)))))) at = refused OutOfRange
 
 -- the operation at a place; the place of its refusals is its first byte
 unfoldable pub operationAt : List ℕ → ℕ → Decoded
-operationAt s at = field (λ x. decoded.Refused x at) (numberAt s at) anyNumber λ kind next. kindAt s (λ x. decoded.Refused x at) kind next
+operationAt s at = field (λ x. decoded.Refused x at) (numberAt s at) anyNumber λ number next. operationNumbered s (λ x. decoded.Refused x at) number next
 
 -- "0 copy (second source must equal the first, else 2)"
 abbrev pub isSecond : ℕ → ℕ → ℕ → Bool

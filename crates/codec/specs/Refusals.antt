@@ -27,7 +27,7 @@ numberOf Lengths = 15
 numberOf LoopRegister = 16
 numberOf NoRoom = 17
 
--- the refusal that has a number, 1 to 17; no refusal has another
+-- the refusal that has a number, 1 to 17; any other number, which no refusal has, gives the first or the last
 abbrev pub numbered : ℕ → Refusal
 numbered zero = BadNumber
 numbered (suc zero) = BadNumber

@@ -15,11 +15,11 @@ use Rattle.codec.specs.declared.writing.Text.{Text}
 use Rattle.codec.specs.declared.writing.Written.{Written}
 use Rattle.codec.specs.declared.writing.Written.the-variants.{To, NoRoom, OutOfRange}
 
--- "2^32 or more counts as too long"
+-- a number that can be written: "2^32 or more counts as too long"
 abbrev pub isNumber : ℕ → Bool
 isNumber v = ltb v 4294967296
 
--- -2^31 to 2^31 - 1: mag is n for n and for -(n + 1)
+-- a signed number that can be written, -2^31 to 2^31 - 1: `mag` is n for n and for -(n + 1)
 abbrev pub isSigned : ℤ → Bool
 isSigned z = ltb (mag z) 2147483648
 

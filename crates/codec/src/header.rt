@@ -3,7 +3,7 @@ use crate::refusal::Refusal;
 ghost use mathlib.Core.Path.{_≡_};
 ghost use mathlib.Core.Bool.{cond, true};
 ghost use Prim.Native.Nat.{_<_, _≤_};
-ghost use Rattle.codec.specs.Headers.{bitsOf, fixedBits, carriedBits, kindOf, widthCoded, bytesOf, couplingOf, headerSaid, headerOf, couplingInRange, headerInRange, kindCode, widthCode, couplingCode, wordOf};
+ghost use Rattle.codec.specs.Headers.{bitsOf, fixedBits, clearBits, kindOf, widthCoded, bytesOf, couplingOf, headerSaid, headerOf, couplingInRange, headerInRange, kindCode, widthCode, couplingCode, wordOf};
 ghost use Rattle.codec.specs.declared.header.Worded.the-variants as worded;
 
 // Whether a stream reads or writes memory.
@@ -77,8 +77,8 @@ fn fixed_bits(w: u32) -> bool
 }
 
 // Whether neither inds nor m is set.
-fn carried_bits(w: u32) -> bool
-    ensures { λ r. ⌜ r ≡ carriedBits w ⌝ }
+fn clear_bits(w: u32) -> bool
+    ensures { λ r. ⌜ r ≡ clearBits w ⌝ }
 {
     if bits(w, 24, 1) != 0 {
         return false;
@@ -165,7 +165,7 @@ pub fn header_of(w: u32) -> Word
     ensures { λ r. ⌜ r ≡ headerOf w ⌝ }
 {
     if fixed_bits(w) {
-        if carried_bits(w) {
+        if clear_bits(w) {
             return Word::Said(header_said(w));
         }
         return Word::Refused(Refusal::NotCarried);

@@ -20,11 +20,12 @@ use Rattle.codec.specs.TestLaws.{never}
 use Rattle.codec.specs.declared.amounts.Bytes.{Bytes}
 use Rattle.codec.specs.declared.header.Coupling.{Coupling}
 use Rattle.codec.specs.declared.header.Coupling.the-variants.{Uncoupled, Coupled}
+use Rattle.engine.specs.Configure.{Covers}
 use Rattle.engine.specs.Loops.{sizeAt, elements}
-use Rattle.engine.specs.Chunks.{groups, groupsOf, chunk, height, differ}
+use Rattle.engine.specs.Chunks.{groups, streamGroups, chunk, height, differ}
 use Rattle.engine.specs.FlagLaws.{differNext, height-between}
 use Rattle.engine.specs.GroupLaws.{leftInGroup}
-use Rattle.engine.specs.ChunkLaws.{Covered, covered, chunk-length, chunk-elements}
+use Rattle.engine.specs.ChunkLaws.{covered, chunk-length, chunk-elements}
 use Rattle.engine.specs.PassLaws.{group-goes-on, group-ends, group-last, group-uncoupled}
 use Rattle.engine.specs.Addresses.{address}
 use Rattle.engine.specs.AddressLaws.{mul-add-right}
@@ -86,7 +87,7 @@ left-coupled s c w n true h q e f =
       more = λ t. (group-goes-on (sizeAt s) (s .dims) c w n m (omega (arith, ltb-false c h t, d)), m);
     }
 
-left-at : (s : Shape) (k : Coupling) → Covered (s .dims) k → (n : ℕ) (found : Bool) (h : ℕ) → n < length (elements s) → found ≡ ltb (suc n) (length (elements s)) → h ≡ height s (suc n)
+left-at : (s : Shape) (k : Coupling) → Covers (s .dims) k → (n : ℕ) (found : Bool) (h : ℕ) → n < length (elements s) → found ≡ ltb (suc n) (length (elements s)) → h ≡ height s (suc n)
     → Left (groups (sizeAt s) (s .dims) k) (length (elements s)) n (stopsAt k found h)
 left-at s Uncoupled w n found h q e f = left-free s n found q e
 left-at s (Coupled c) w n found h q e f = left-coupled s c w n found h q e f
@@ -101,7 +102,7 @@ goes-found (Coupled c) false h e = sym e
 pub record Going (r : Register) (most k : ℕ) (place : Place) (h : ℕ) (xs : List ℤ) : Type 0 where
   pub few : k ≤ most
   pub below : r .moved + k < length (elements (shapeOf r))
-  pub rest : leftInGroup (groupsOf (shapeOf r)) (r .moved) ≡ k + leftInGroup (groupsOf (shapeOf r)) (r .moved + k)
+  pub rest : leftInGroup (streamGroups (shapeOf r)) (r .moved) ≡ k + leftInGroup (streamGroups (shapeOf r)) (r .moved + k)
   pub onward : Onward (r .pattern) (r .width) (r .moved + k) true place h
   pub addressed : xs ≡ addressesOf (r .pattern) (r .width) (take k (drop (r .moved) (elements (shapeOf r))))
 
@@ -134,7 +135,7 @@ module _ (r : Register) (y : Ready r) (most k : ℕ) (place : Place) (h : ℕ) (
       ∙ ap (addressesOf (r .pattern) (r .width)) (sym (take-drop-suc k (r .moved) (elements (shapeOf r)) (g .below))))
 
   module _ (found : Bool) (place' : Place) (h' : ℕ) (on : Onward (r .pattern) (r .width) (suc (r .moved + k)) found place' h') where
-    left : Left (groupsOf (shapeOf r)) (length (elements (shapeOf r))) (r .moved + k) (stopsAt (shapeOf r .coupling) found h')
+    left : Left (streamGroups (shapeOf r)) (length (elements (shapeOf r))) (r .moved + k) (stopsAt (shapeOf r .coupling) found h')
     left = left-at (shapeOf r) (shapeOf r .coupling) (covered (shapeOf r) (shapeOf r .coupling) (y .accepted .covered)) (r .moved + k) found h' (g .below) (on .told) (on .high)
 
     further : suc (r .moved + k) ≡ r .moved + (k + 1)
@@ -145,7 +146,7 @@ module _ (r : Register) (y : Ready r) (most k : ℕ) (place : Place) (h : ℕ) (
     onward-more = subst (λ n. Onward (r .pattern) (r .width) n found place' h') further on
 
     -- the chunk ends with it
-    pub ends-here : stopsAt (shapeOf r .coupling) found h' ≡ true → leftInGroup (groupsOf (shapeOf r)) (r .moved) ≡ k + 1
+    pub ends-here : stopsAt (shapeOf r .coupling) found h' ≡ true → leftInGroup (streamGroups (shapeOf r)) (r .moved) ≡ k + 1
     ends-here t = omega (arith, g .rest, left .last t)
 
     -- or it goes on
@@ -155,7 +156,7 @@ module _ (r : Register) (y : Ready r) (most k : ℕ) (place : Place) (h : ℕ) (
         record {
           few = omega arith;
           below = omega (arith, l .1);
-          rest = omega (arith, g .rest, l .0, ap (leftInGroup (groupsOf (shapeOf r))) further);
+          rest = omega (arith, g .rest, l .0, ap (leftInGroup (streamGroups (shapeOf r))) further);
           onward = subst (λ b. Onward (r .pattern) (r .width) (r .moved + (k + 1)) b place' h') (goes-found (shapeOf r .coupling) found h' t) onward-more;
           addressed = one-more;
         }
@@ -167,7 +168,7 @@ going r y most place e =
     record {
       few = omega arith;
       below = omega (arith, y .some);
-      rest = omega (arith, ap (leftInGroup (groupsOf (shapeOf r))) z);
+      rest = omega (arith, ap (leftInGroup (streamGroups (shapeOf r))) z);
       onward = subst (λ n. Onward (r .pattern) (r .width) n true place (r .height)) z
           (record { told = sym (lt-ltb _ _ (y .some)); here = λ t. e ∙ ap (placeAt (r .pattern) (r .width)) (y .index); high = y .height });
       addressed = refl;
@@ -176,7 +177,7 @@ going r y most place e =
 -- ---- what is known at the end
 
 module _ (p : Pattern) (before : List ℕ) (q : Running) (y : Ready (viewOf p [] before q)) (most count : ℕ) (xs : List ℤ) (row : List ℕ) (after : Running)
-    (c : count ≡ min most (leftInGroup (groupsOf (p .shape)) (q .moved)))
+    (c : count ≡ min most (leftInGroup (streamGroups (p .shape)) (q .moved)))
     (a : xs ≡ addressesOf p (q .width) (take count (drop (q .moved) (elements (p .shape))))) where
   -- the walk stands behind the chunk, and the register says so
   pub looked : (found : Bool) (place : Place) (h : ℕ) → Onward p (q .width) (q .moved + count) found place h
@@ -184,7 +185,7 @@ module _ (p : Pattern) (before : List ℕ) (q : Running) (y : Ready (viewOf p []
       → Remembers p row after → Looks p before q most count xs row after
   unfolding movedBy
   looked found place h on s m =
-      let n : length (chunk (p .shape) most (q .moved)) ≡ count = chunk-length (groupsOf (p .shape)) most (q .moved) ∙ sym c in
+      let n : length (chunk (p .shape) most (q .moved)) ≡ count = chunk-length (streamGroups (p .shape)) most (q .moved) ∙ sym c in
       let e : chunk (p .shape) most (q .moved) ≡ take count (drop (q .moved) (elements (p .shape))) =
       chunk-elements (p .shape) most (q .moved) (covered (p .shape) (p .shape .coupling) (y .accepted .covered))
       ∙ ap (λ j. take j (drop (q .moved) (elements (p .shape)))) n in

@@ -12,7 +12,7 @@ use Rattle.codec.specs.TestLaws.{or-false, and-false}
 use Rattle.codec.specs.declared.operation.Action.{Action}
 use Rattle.codec.specs.declared.refusal.Refusal.{Refusal}
 use Rattle.codec.specs.declared.refusal.Refusal.the-variants.{Widths, LaneCounts, Outside}
-use Rattle.engine.specs.Chunks.{groupsOf}
+use Rattle.engine.specs.Chunks.{streamGroups}
 use Rattle.engine.specs.ChunkLaws.{chunk-lanes}
 use Rattle.engine.specs.Lanes.{lane, lanewise}
 use Rattle.engine.specs.Memory.{holding}
@@ -156,7 +156,7 @@ pub target-few : (n : ℕ) (d : Register) (o : Operand) → Operates d n n o →
 target-few n d o h = go (isOpen (d .state)) refl
   where
     go : (t : Bool) → isOpen (d .state) ≡ t → o .count ≤ n
-    go true e = rw (rw e at (h .counted)) (chunk-lanes (groupsOf (shapeOf d)) n (d .moved))
+    go true e = rw (rw e at (h .counted)) (chunk-lanes (streamGroups (shapeOf d)) n (d .moved))
     go false e = rw (rw e at (h .counted)) (le-refl n)
 
 -- the ways that a check on the operands refuses

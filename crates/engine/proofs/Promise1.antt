@@ -29,18 +29,20 @@ use Rattle.codec.specs.declared.operation.Decoded.the-variants as decoded
 use Rattle.codec.specs.declared.refusal.Refusal.{Refusal}
 use Rattle.codec.specs.declared.refusal.Refusal.the-variants.{OutOfRange, Lengths, LoopRegister}
 use Rattle.engine.specs.Registers.{freshMachine, reg}
-use Rattle.engine.specs.Configure.{registerOf, checksFor, whyNot}
+use Rattle.engine.specs.Configure.{registerOf, whyNot}
 use Rattle.engine.specs.Calculate.{World}
 use Rattle.engine.specs.Run.{Progress, begun, execute}
 use Rattle.engine.specs.Sheets.{Ending, over, runs, refused, Calculations, whole, broken, isLoopRegister, bodyAt, endingOf, Prepared, onDecoded, prepare, allowed, onEnding, refusedAt, run}
-use Rattle.engine.specs.GoodLaws.{First, first-because, fresh-machine-good}
+use Rattle.engine.specs.GoodLaws.{fresh-machine-good}
 use Rattle.engine.specs.EndLaws.{Running}
 use Rattle.engine.specs.SheetLaws.{onward, onward-next, onward-over, prepare-onward, run-lengths, run-ends, Passes, run-passes}
 use Rattle.engine.specs.Allowed.{Fits, Accepts}
+use Rattle.engine.specs.Reasons.{OperationRefused}
+use Rattle.engine.specs.ReasonLaws.{operation-refused}
 use Rattle.engine.specs.AllowedLaws.{fails, fits-allowed, accepts-clear, loops-on}
 use Rattle.engine.specs.Histories.{Ran}
 use Rattle.engine.specs.RanLaws.{execute-ran, ran-one}
-use Rattle.engine.specs.Promise1.{Unread, Configures, Written, after, Turns, BodyAt, LoopsOn, RunAt, world, Before, Right, Encoded, Promise1}
+use Rattle.engine.specs.Promise1.{Unread, Configures, OperationAt, after, Turns, BodyAt, LoopsOn, RunAt, world, DoneBefore, Right, Encoded, Promise1}
 use Rattle.engine.specs.ReadingLaws.{read-written, unread-refused, refused-unread}
 use Rattle.engine.specs.StandLaws.{written-on, decoded-refused, onward-written, turns-onward, turns-snoc, turns-on, body-on, body-whole, body-broken, Breaks, body-either, turns-cut, bytes-cut, turns-bytes, body-bytes}
 use Rattle.engine.specs.declared.check.Why.{Why}
@@ -53,7 +55,7 @@ use Rattle.engine.specs.declared.run.Verdict.the-variants.{Done, Refused
 abbrev left : Machine → Ending → Prepared
 left m d = record { machine = m; ending = d }
 
-module _ (s : List ℕ) (p : areBytes s) (os : List Operation) (at : ℕ) (m : Machine) (t : Before s os at m) where
+module _ (s : List ℕ) (p : areBytes s) (os : List Operation) (at : ℕ) (m : Machine) (t : DoneBefore s os at m) where
   -- the operations of a sheet end as they do from a place on, once those before it are done
   prepared : (d : Ending) → onward s at m ≡ left m d → prepare s freshMachine ≡ left m d
   prepared d e = prepare-onward s freshMachine ∙ turns-onward s 0 freshMachine os at m p t ∙ e
@@ -67,11 +69,11 @@ module _ (s : List ℕ) (p : areBytes s) (os : List Operation) (at : ℕ) (m : M
   unread-from x h u = onward-next s at m p h ∙ ap (λ d. onDecoded s at m d (onward s)) (unread-refused s at p x u)
 
   -- one that is refused
-  refused-from : (o : Operation) (to : ℕ) (x : Refusal) → Written s at o to → First (checksFor o (reg m (registerOf o))) x → onward s at m ≡ left m (refused x at)
+  refused-from : (o : Operation) (to : ℕ) (x : Refusal) → OperationAt s at o to → OperationRefused o (reg m (registerOf o)) x → onward s at m ≡ left m (refused x at)
   refused-from o to x w f = onward-written s at m o to p w ∙ decoded-refused s at m o (record { at = to }) (onward s) x f
 
   -- a run, by what its body is
-  run-from : (loop count from : ℕ) (r : Calculations) → Written s at (op.Run loop count) from → bodyAt s count from ≡ r → onward s at m ≡ left m (endingOf s at loop m r)
+  run-from : (loop count from : ℕ) (r : Calculations) → OperationAt s at (op.Run loop count) from → bodyAt s count from ≡ r → onward s at m ≡ left m (endingOf s at loop m r)
   run-from loop count from r w e = onward-written s at m (op.Run loop count) from p w ∙ ap (λ b. left m (endingOf s at loop m b)) e
 
   -- one whose body is read whole
@@ -101,7 +103,7 @@ pub record Runs (vl : ℕ) (s memory : List ℕ) (m : Machine) (loop : ℕ) (cs 
   pub some : 1 ≤ length cs
 
 -- such is one whose run is read whole, with no byte behind it and a right loop register
-pub sheet-runs : (vl : ℕ) (s memory : List ℕ) (p : areBytes s) (os : List Operation) (at : ℕ) (m : Machine) (loop : ℕ) (cs : List Placed) → Before s os at m
+pub sheet-runs : (vl : ℕ) (s memory : List ℕ) (p : areBytes s) (os : List Operation) (at : ℕ) (m : Machine) (loop : ℕ) (cs : List Placed) → DoneBefore s os at m
     → Fits vl (length memory) → RunAt s at loop cs (length s) → LoopsOn loop cs m → Runs vl s memory m loop cs
 sheet-runs vl s memory p os at m loop cs t f r l =
     let e : onward s at m ≡ left m (runs loop cs) = last-from s p os at m t loop cs true r (loops-on loop cs m .1 l) in
@@ -133,10 +135,10 @@ module _ (vl : ℕ) (s memory : List ℕ) (p : areBytes s) where
       (execute-ran vl loop cs (world m memory) (k .running) (k .some))
       ∙ sym (k .executes)
 
-  module _ (f : Fits vl (length memory)) (os : List Operation) (at : ℕ) (m : Machine) (t : Before s os at m) where
+  module _ (f : Fits vl (length memory)) (os : List Operation) (at : ℕ) (m : Machine) (t : DoneBefore s os at m) where
     -- no byte is left
     right-over : at ≡ length s → Right vl s memory (run vl s memory)
-    right-over e = Right.over f os m (subst (λ k. Before s os k m) e t) (answered s p os at m t vl memory over f (over-from s p os at m t e))
+    right-over e = Right.over f os m (subst (λ k. DoneBefore s os k m) e t) (answered s p os at m t vl memory over f (over-from s p os at m t e))
 
     -- a run, once its body is read: bytes after it, then 16
     right-run : (loop : ℕ) (cs : List Placed) (to : ℕ) → RunAt s at loop cs to → to ≤ length s → Right vl s memory (run vl s memory)
@@ -162,12 +164,12 @@ module _ (vl : ℕ) (s memory : List ℕ) (p : areBytes s) where
         trails false e = loops (omega (arith, ltb-false to (length s) e)) (isLoopRegister loop cs m) refl
 
     -- its body
-    right-body : (loop count from : ℕ) → Written s at (op.Run loop count) from → Right vl s memory (run vl s memory)
+    right-body : (loop count from : ℕ) → OperationAt s at (op.Run loop count) from → Right vl s memory (run vl s memory)
     right-body loop count from w = go (body-either s count from p)
       where
         go : ((cs : List Placed) × (to : ℕ) × BodyAt s from cs to × (length cs ≡ count)) ⊎ Breaks s count from → Right vl s memory (run vl s memory)
         go (inl (cs, to, b, e)) =
-            right-run loop cs to (record { from = from; written = subst (λ n. Written s at (op.Run loop n) from) (sym e) w; body = b })
+            right-run loop cs to (record { from = from; written = subst (λ n. OperationAt s at (op.Run loop n) from) (sym e) w; body = b })
             (body-on s from cs to p (w .stands .within) b .1)
         go (inr b) =
             let x : Refusal = b .refusal in
@@ -176,22 +178,22 @@ module _ (vl : ℕ) (s memory : List ℕ) (p : areBytes s) where
             (answered s p os at m t vl memory (refused x (b .place)) f (run-from s p os at m t loop count from (broken x (b .place)) w e))
 
     -- an operation that configures: refused, or followed by the rest
-    right-configures : (o : Operation) (to : ℕ) → Configures o → Written s at o to
+    right-configures : (o : Operation) (to : ℕ) → Configures o → OperationAt s at o to
         → (Accepts o (reg m (registerOf o)) → Right vl s memory (run vl s memory)) → Right vl s memory (run vl s memory)
     right-configures o to c w rest = go (whyNot o m) refl
       where
         go : (y : Why) → whyNot o m ≡ y → Right vl s memory (run vl s memory)
         go Nothing e = rest (accepts-clear o m c .0 e)
         go (Because x) e =
-            let h : First (checksFor o (reg m (registerOf o))) x = unfold whyNot in first-because (checksFor o (reg m (registerOf o))) x e in
+            let h : OperationRefused o (reg m (registerOf o)) x = operation-refused o m x .0 e in
             Right.refused f os at m o to x t w h (answered s p os at m t vl memory (refused x at) f (refused-from s p os at m t o to x w h))
 
     -- an operation, or why it cannot be read
-    right-next : at < length s → ((o : Operation) (to : ℕ) → Written s at o to → Accepts o (reg m (registerOf o)) → Right vl s memory (run vl s memory))
+    right-next : at < length s → ((o : Operation) (to : ℕ) → OperationAt s at o to → Accepts o (reg m (registerOf o)) → Right vl s memory (run vl s memory))
         → Right vl s memory (run vl s memory)
     right-next h rest = go (operationAt s at) refl
       where
-        operation : (o : Operation) (to : ℕ) → Written s at o to → Right vl s memory (run vl s memory)
+        operation : (o : Operation) (to : ℕ) → OperationAt s at o to → Right vl s memory (run vl s memory)
         operation (op.Open g b) to w = right-configures (op.Open g b) to tt w (rest (op.Open g b) to w)
         operation (op.Dimension d) to w = right-configures (op.Dimension d) to tt w (rest (op.Dimension d) to w)
         operation (op.Modifier d) to w = right-configures (op.Modifier d) to tt w (rest (op.Modifier d) to w)
@@ -205,14 +207,14 @@ module _ (vl : ℕ) (s memory : List ℕ) (p : areBytes s) where
         go (decoded.Operation o c) e = operation o (c .at) (read-written s at o c p e)
 
   -- from any place on, once the operations before it are done
-  right-from : (n : ℕ) → Fits vl (length memory) → (os : List Operation) (at : ℕ) (m : Machine) → Before s os at m → at ≤ length s → length s - at ≤ n
+  right-from : (n : ℕ) → Fits vl (length memory) → (os : List Operation) (at : ℕ) (m : Machine) → DoneBefore s os at m → at ≤ length s → length s - at ≤ n
       → Right vl s memory (run vl s memory)
   right-from zero f os at m t h k = right-over f os at m t (omega arith)
   right-from (suc n) f os at m t h k =
       go (ltb at (length s)) refl
       (λ o to w a. let q = written-on s at o to p w in right-from n f (os ++ (o ∷ [])) to (after o m) (turns-snoc s 0 freshMachine os at m o to t w a) (q .1) (omega arith))
     where
-      go : (b : Bool) → ltb at (length s) ≡ b → ((o : Operation) (to : ℕ) → Written s at o to → Accepts o (reg m (registerOf o)) → Right vl s memory (run vl s memory))
+      go : (b : Bool) → ltb at (length s) ≡ b → ((o : Operation) (to : ℕ) → OperationAt s at o to → Accepts o (reg m (registerOf o)) → Right vl s memory (run vl s memory))
           → Right vl s memory (run vl s memory)
       go true e rest = right-next f os at m t (ltb-true at (length s) e) rest
       go false e rest = right-over f os at m t (omega (arith, ltb-false at (length s) e))
@@ -240,7 +242,7 @@ encoded : (vl : ℕ) (s memory : List ℕ) (r : Progress) → Right vl s memory 
 encoded vl s memory r (Right.lengths n x k e) v = not-done r _ _ _ v e
 encoded vl s memory r (Right.over f os m t e) v =
     let b = turns-bytes s 0 freshMachine os (length s) m (omega arith) t in
-    Encoded.over (b .0) os m t (stands-all s _ (b .1))
+    Encoded.over (b .0) os m (b .1) t (stands-all s _ (b .2))
 encoded vl s memory r (Right.unread f os at m x t h u e) v = not-done r _ _ _ v e
 encoded vl s memory r (Right.refused f os at m o to x t w c e) v = not-done r _ _ _ v e
 encoded vl s memory r (Right.broken f os at m loop count from cs place x t w b h u e) v = not-done r _ _ _ v e
@@ -249,17 +251,17 @@ encoded vl s memory r (Right.no-loop f os at m loop cs x t w n k e) v = not-done
 encoded vl s memory r (Right.ran f os at m loop cs t w l h) v =
     let b = turns-bytes s 0 freshMachine os at m (omega arith) t in
     let k : Stands s at (operationBytes 0 (op.Run loop (length cs))) (w .from) = subst (λ l. Stands s at l (w .from)) (run-bytes (w .written .free) loop (length cs)) (w .written .stands) in
-    Encoded.with-run (b .0) os at m loop cs t w
-    (stands-all s _ (stands-join (b .1) (stands-join k (body-bytes s (w .from) cs (length s) (w .written .stands .within) (w .body)))))
+    Encoded.with-run (b .0) os at m loop cs (b .1) t w
+    (stands-all s _ (stands-join (b .2) (stands-join k (body-bytes s (w .from) cs (length s) (w .written .stands .within) (w .body)))))
 
 -- the operations before a place are done in the sheet that is cut there
-cut-done : (vl : ℕ) (s memory : List ℕ) → areBytes s → Fits vl (length memory) → (os : List Operation) (at : ℕ) (m : Machine) → Before s os at m
+cut-done : (vl : ℕ) (s memory : List ℕ) → areBytes s → Fits vl (length memory) → (os : List Operation) (at : ℕ) (m : Machine) → DoneBefore s os at m
     → run vl (take at s) memory ≡ begun (world m memory)
 cut-done vl s memory p f os at m t =
     let k = turns-on s 0 freshMachine os at m p (omega arith) t in
     let e : at ≡ length (take at s) = sym (length-take-le at s (k .1)) in
-    let c : Before (take at s) os at m = turns-cut s at 0 freshMachine os at m p (k .1) (omega arith) t in
-    sym (only vl (take at s) memory (bytes-cut s at p) (begun (world m memory)) (Right.over f os m (subst (λ n. Before (take at s) os n m) e c) refl))
+    let c : DoneBefore (take at s) os at m = turns-cut s at 0 freshMachine os at m p (k .1) (omega arith) t in
+    sym (only vl (take at s) memory (bytes-cut s at p) (begun (world m memory)) (Right.over f os m (subst (λ n. DoneBefore (take at s) os n m) e c) refl))
 
 -- Promise 1
 pub promise1 : (vl : ℕ) (s memory : List ℕ) → areBytes s → Promise1 vl s memory

@@ -18,12 +18,12 @@ use Rattle.engine.specs.Run.{Progress, begun, execute}
 use Rattle.engine.specs.EndLaws.{Running}
 use Rattle.engine.specs.Histories.{worldAt, movedOf, Ran}
 use Rattle.engine.specs.Given.{Stream, Given, none, going, ended, givenFor}
-use Rattle.engine.specs.GivenLaws.{Inside, Has, before-has}
+use Rattle.engine.specs.GivenLaws.{InRegister, Has, before-has}
 use Rattle.engine.specs.MomentLaws.{inside-finished, inside-moment}
 use Rattle.engine.specs.MovingLaws.{world-last, follow-inside}
 use Rattle.engine.specs.RanLaws.{ran-named, execute-ran}
 use Rattle.engine.proofs.Promise1.{sheet-runs}
-use Rattle.engine.specs.Promise1.{Before, LoopsOn, world}
+use Rattle.engine.specs.Promise1.{DoneBefore, LoopsOn, world}
 use Rattle.engine.specs.Promise2.{Streams, Promise2}
 use Rattle.engine.specs.declared.register.State.{State}
 use Rattle.engine.specs.declared.register.State.the-variants.{Plain, Configuring, Open, Finished}
@@ -48,25 +48,25 @@ ended-stream (going t) r h e = not-configuring (r .state) e (h .1)
 ended-stream (ended t) r h e = (t, refl)
 
 -- each stream that was ended is in its register, nothing moved
-ended-inside : (s : List ℕ) (os : List Operation) (at : ℕ) (m : Machine) → Before s os at m → (i : ℕ) → i < 32 → (t : Stream) → givenFor i os ≡ ended t
-    → Inside t [] (reg m i)
+ended-inside : (s : List ℕ) (os : List Operation) (at : ℕ) (m : Machine) → DoneBefore s os at m → (i : ℕ) → i < 32 → (t : Stream) → givenFor i os ≡ ended t
+    → InRegister t [] (reg m i)
 ended-inside s os at m b i h t e = subst (λ g. Has g (reg m i)) e (before-has s os at m i b h)
 
 module _ (vl : ℕ) (s memory : List ℕ) (os : List Operation) (at : ℕ) (m : Machine) (loop : ℕ) (cs : List Placed) (r : Progress)
-    (b : Before s os at m) (g : Running vl loop cs (begun (world m memory))) (some : 1 ≤ length cs) (q : Ran vl loop cs (world m memory) r)
+    (b : DoneBefore s os at m) (g : Running vl loop cs (begun (world m memory))) (some : 1 ≤ length cs) (q : Ran vl loop cs (world m memory) r)
   where
     -- a stream that was ended, at every moment of the run
     at-each : (i : ℕ) → i < 32 → (t : Stream) → givenFor i os ≡ ended t → (k : ℕ)
-        → Inside t (movedOf (take k (q .entries)) i) (reg (worldAt (world m memory) (q .entries) k .machine) i)
+        → InRegister t (movedOf (take k (q .entries)) i) (reg (worldAt (world m memory) (q .entries) k .machine) i)
     at-each i h t e k =
         follow-inside vl (q .entries) (world m memory) (r .world) i t [] k (g .lanes) (g .good)
         (ran-named vl loop cs (world m memory) g some r q) (q .follow) h (ended-inside s os at m b i h t e)
 
     -- at its end
-    at-end : (i : ℕ) → i < 32 → (t : Stream) → givenFor i os ≡ ended t → Inside t (movedOf (q .entries) i) (reg (r .world .machine) i)
+    at-end : (i : ℕ) → i < 32 → (t : Stream) → givenFor i os ≡ ended t → InRegister t (movedOf (q .entries) i) (reg (r .world .machine) i)
     at-end i h t e =
-        subst (λ es. Inside t (movedOf es i) (reg (r .world .machine) i)) (take-length (q .entries))
-        (subst (λ w. Inside t (movedOf (take (length (q .entries)) (q .entries)) i) (reg (w .machine) i))
+        subst (λ es. InRegister t (movedOf es i) (reg (r .world .machine) i)) (take-length (q .entries))
+        (subst (λ w. InRegister t (movedOf (take (length (q .entries)) (q .entries)) i) (reg (w .machine) i))
         (world-last vl (q .entries) (world m memory) (r .world) (q .follow))
         (at-each i h t e (length (q .entries))))
 

@@ -22,7 +22,7 @@ use Rattle.engine.specs.Loops.{elements}
 use Rattle.engine.specs.Memory.{fetch, stored, contents, holding}
 use Rattle.engine.specs.Registers.{isOpen, isLoad, openLoad, openStore, shapeOf, nextChunk, movedTo, movedBy, reg}
 use Rattle.engine.specs.Calculate.{World, given, results, readFrom, writtenTo, memoryAfter, effect}
-use Rattle.engine.specs.Allowed.{Source, Sink}
+use Rattle.engine.specs.Allowed.{Source, Destination}
 use Rattle.engine.specs.Good.{Good}
 use Rattle.engine.specs.ComeLaws.{lanes-some, come-open, next-front}
 use Rattle.engine.specs.EffectLaws.{effect-reg, read-open, read-shut, written-open, written-shut}
@@ -67,9 +67,9 @@ open-load r (Source.plain p) o = not-both r p o
 open-load r (Source.load p k) o = and-both (isOpen (r .state)) (isLoad (r .kind)) (ap isOpen p) (ap isLoad k)
 
 -- an open destination is a store
-pub open-store : (r : Register) → Sink r → r .state ≡ Open → openStore r ≡ true
-open-store r (Sink.plain p) o = not-both r p o
-open-store r (Sink.store p k) o = and-both (isOpen (r .state)) (not (isLoad (r .kind))) (ap isOpen p) (ap (λ x. not (isLoad x)) k)
+pub open-store : (r : Register) → Destination r → r .state ≡ Open → openStore r ≡ true
+open-store r (Destination.plain p) o = not-both r p o
+open-store r (Destination.store p k) o = and-both (isOpen (r .state)) (not (isLoad (r .kind))) (ap isOpen p) (ap (λ x. not (isLoad x)) k)
 
 -- a register that is a source, as the effect tells it
 pub is-source : (c : Calculation) (i : ℕ) → (i ≡ c .first) ⊎ (i ≡ c .second) → (eqb i (c .first) || eqb i (c .second)) ≡ true
@@ -105,7 +105,7 @@ module _ (vl : ℕ) (c : Calculation) (w : World) (i : ℕ) (h : i < length (w .
   went-plain p s = (shut-idle vl c w i (ap isOpen s), written p ∙ written-shut _ (results vl c w) was (ap isOpen s))
 
   -- a store
-  pub went-store : i ≡ c .destination → Sink was → was .state ≡ Open → Good vl was
+  pub went-store : i ≡ c .destination → Destination was → was .state ≡ Open → Good vl was
       → length (results vl c w) ≤ length (nextChunk vl was)
       → Went (take (length (results vl c w)) (drop (was .moved) (elements (shapeOf was))))
       (movedTo (was .moved + length (results vl c w)) was)
@@ -154,7 +154,7 @@ module _ (vl : ℕ) (c : Calculation) (w : World) where
   memory-kept p = let o : isOpen (target .state) ≡ false = ap isOpen p in rw o
 
   -- a store's elements that moved hold the lanes
-  pub memory-stored : Sink target → target .state ≡ Open
+  pub memory-stored : Destination target → target .state ≡ Open
       → effect vl c w .memory ≡ stored (target .pattern) (target .width) (w .memory) (movedIn vl c w (c .destination)) (results vl c w)
   unfolding effect memoryAfter
   memory-stored k s =

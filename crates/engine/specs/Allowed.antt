@@ -4,7 +4,8 @@
 --   lastsOutside, lowOf, highOf       the rule on low and high, of one dimension
 --   Opens, Extends, Modifies, Ends    when each configuring operation is accepted
 --   Accepts                           any of them
---   Lies, Source, Sink, Calculates    when a calculation is
+--   Lies, AllLie, OpenLie             elements inside memory
+--   Source, Destination, Calculates   when a calculation is
 use Prim.Native.Nat.{ℕ, suc, _+_, _%_, _≤_, _<_}
 use mathlib.Core.Path.{_≡_}
 use mathlib.Core.List.{List, [], map}
@@ -12,16 +13,16 @@ use lib.ListN.{length, getD, take, drop}
 use lib.IntN.{ℤ, pos, _+ℤ_}
 use lib.Signed.{_≤ℤ_}
 use Rattle.codec.specs.declared.header.Kind.the-variants.{Load, Store}
-use Rattle.codec.specs.declared.header.Coupling.{Coupling}
-use Rattle.codec.specs.declared.header.Coupling.the-variants.{Uncoupled, Coupled}
 use Rattle.codec.specs.declared.operation.Operation.{Operation}
 use Rattle.codec.specs.declared.operation.Operation.the-variants as op
 use Rattle.codec.specs.declared.operation.Calculation.{Calculation}
 use Rattle.engine.specs.Rules.{lastIndex, highAt, lowAt, highsOf, product}
 use Rattle.engine.specs.Addresses.{address}
 use Rattle.engine.specs.Registers.{shapeOf, nextChunk, reg}
+use Rattle.engine.specs.Configure.{Covers}
 use Rattle.engine.specs.Calculate.{World, given}
 use Rattle.engine.specs.declared.stream.Shape.{Shape}
+use Rattle.engine.specs.declared.stream.Pattern.{Pattern}
 use Rattle.engine.specs.declared.register.State.the-variants.{Plain, Configuring, Open, Finished}
 use Rattle.engine.specs.declared.register.Register.{Register}
 
@@ -62,11 +63,6 @@ lowOf s d = lowAt s d (lastsOutside s d)
 abbrev pub highOf : Shape → ℕ → ℕ
 highOf s d = highAt s d (lastsOutside s d)
 
--- the coupled dimension is there
-abbrev pub Covers : ℕ → Coupling → Type 0
-Covers dims Uncoupled = Unit {0}
-Covers dims (Coupled c) = c ≤ dims
-
 -- end, of one that has a dimension and the coupled one, no low below 0, no high above 4,096, and a product of at most 1,048,576
 pub record Ends (r : Register) : Type 0 where
   pub configuring : r .state ≡ Configuring
@@ -91,9 +87,13 @@ pub record Lies (len width : ℕ) (a : ℤ) : Type 0 where
   pub least : pos 0 ≤ℤ a
   pub most : (a +ℤ pos width) ≤ℤ pos len
 
+-- the elements vs of a pattern lie inside a memory of len bytes
+abbrev pub AllLie : ℕ → ℕ → Pattern → List (List ℕ) → Type 0
+AllLie len width p vs = (k : ℕ) → k < length vs → Lies len width (address p width (getD vs k []))
+
 -- the elements of an open stream that would move lie inside
-abbrev pub AllLie : ℕ → Register → List (List ℕ) → Type 0
-AllLie len r vs = r .state ≡ Open → (k : ℕ) → k < length vs → Lies len (r .width) (address (r .pattern) (r .width) (getD vs k []))
+abbrev pub OpenLie : ℕ → Register → List (List ℕ) → Type 0
+OpenLie len r vs = r .state ≡ Open → AllLie len (r .width) (r .pattern) vs
 
 -- a source is plain or an open load
 pub data Source (r : Register) : Type 0 where
@@ -101,22 +101,22 @@ pub data Source (r : Register) : Type 0 where
   load : r .state ≡ Open → r .kind ≡ Load → Source r
 
 -- a destination is plain or an open store
-pub data Sink (r : Register) : Type 0 where
-  plain : r .state ≡ Plain → Sink r
-  store : r .state ≡ Open → r .kind ≡ Store → Sink r
+pub data Destination (r : Register) : Type 0 where
+  plain : r .state ≡ Plain → Destination r
+  store : r .state ≡ Open → r .kind ≡ Store → Destination r
 
 -- when a calculation is accepted: on first source a, second source b, destination d, with n lanes of a and m of b
 pub record CalculatesOn (vl len n m : ℕ) (a b d : Register) : Type 0 where
   pub first : Source a
   pub second : Source b
-  pub destination : Sink d
+  pub destination : Destination d
   pub widths : a .width ≡ b .width
   pub width : d .state ≡ Open → a .width ≡ d .width
   pub lanes : n ≡ m
   pub room : d .state ≡ Open → n ≤ length (nextChunk vl d)
-  pub first-inside : AllLie len a (nextChunk vl a)
-  pub second-inside : AllLie len b (nextChunk vl b)
-  pub destination-inside : AllLie len d (take n (nextChunk vl d))
+  pub first-inside : OpenLie len a (nextChunk vl a)
+  pub second-inside : OpenLie len b (nextChunk vl b)
+  pub destination-inside : OpenLie len d (take n (nextChunk vl d))
 
 -- when a calculation is accepted in a world: on the registers that it names
 abbrev pub Calculates : ℕ → Calculation → World → Type 0

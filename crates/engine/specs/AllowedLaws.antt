@@ -4,8 +4,8 @@
 --   is-open, is-configuring, is-load         a state or a kind, by its test
 --   fits-allowed                             the lengths
 --   opens-clear, extends-clear, modifies-clear, ends-clear, accepts-clear   each operation that configures, and any
---   lasts-outside, low-high, covers-clear    what an end looks at: low and high, the coupled dimension
---   names-which, which-names, loops-on       16
+--   lasts-outside, low-high, covers-clear, some-dimension   what an end looks at: low and high, the coupled dimension
+--   names-which, which-names, stream-plain, loops-on   16
 use Prim.Native.Nat.{ℕ, zero, suc, _+_, _-_, _%_, _≤_, _<_}
 use mathlib.Core.Path.{_≡_, refl, sym, _∙_, ap}
 use mathlib.Core.Logic.{_⊎_, inl, inr, _↔_}
@@ -29,12 +29,12 @@ use Rattle.codec.specs.declared.operation.Operation.the-variants as op
 use Rattle.engine.specs.Rules.{lastIndex, lowAt, highs, highsOf, product, lowOrHighFrom, lowOrHigh}
 use Rattle.engine.specs.Checks.{firstOf}
 use Rattle.engine.specs.Registers.{isConfiguring, isOpen, isFinished, isLoad, shapeOf, reg}
-use Rattle.engine.specs.Configure.{openChecks, dimensionChecks, modifierChecks, uncovered, endChecks, registerOf, whyNot}
+use Rattle.engine.specs.Configure.{openChecks, dimensionChecks, modifierChecks, uncovered, Covers, endChecks, registerOf, whyNot}
 use Rattle.engine.specs.Sheets.{names, isLoopRegister, allowed}
-use Rattle.engine.specs.BoundLaws.{lastsFrom, Passed, passed, highs-next}
+use Rattle.engine.specs.BoundLaws.{lastsFrom, InBounds, passed, highs-next}
 use Rattle.engine.specs.GoodLaws.{next, more, dimension-passed, modifier-passed}
 use Rattle.engine.specs.CalculationLaws.{nothing}
-use Rattle.engine.specs.Allowed.{Fits, Opens, Extends, Modifies, lastsOutside, lowOf, highOf, Covers, Ends, Accepts}
+use Rattle.engine.specs.Allowed.{Fits, Opens, Extends, Modifies, lastsOutside, lowOf, highOf, Ends, Accepts}
 use Rattle.engine.specs.Histories.{noPlaced}
 use Rattle.engine.specs.Promise1.{Configures, LoopsOn}
 use Rattle.engine.specs.declared.check.Why.the-variants.{Nothing}
@@ -184,7 +184,7 @@ low-high s = (there, λ h. high-clear s 0 (s .dims) (omega arith) h)
   where
     there : lowOrHigh s ≡ false → (d : ℕ) → d < s .dims → LowHigh s d
     there e d q =
-        let p : Passed s d = passed s e d q in
+        let p : InBounds s d = passed s e d q in
         rw (lasts-outside s d q) (nonneg-plain (lowAt s d (lastsFrom s (suc d))) .0 (p .low), p .high)
 
 -- the coupled dimension
@@ -192,9 +192,9 @@ pub covers-clear : (s : Shape) (c : Coupling) → (uncovered s c ≡ false) ↔ 
 covers-clear s Uncoupled = (λ e. tt, λ h. refl)
 covers-clear s (Coupled c) = (ltb-false (s .dims) c, le-ltb (s .dims) c)
 
--- a number that is not 0
-some : (n : ℕ) → (eqb n 0 ≡ false) ↔ (1 ≤ n)
-some n = (λ e. there n (eqb-false n 0 e), λ h. ne-eqb n 0 (λ q. omega arith))
+-- a dimension at least
+pub some-dimension : (n : ℕ) → (eqb n 0 ≡ false) ↔ (1 ≤ n)
+some-dimension n = (λ e. there n (eqb-false n 0 e), λ h. ne-eqb n 0 (λ q. omega arith))
   where
     there : (n : ℕ) → (n ≡ 0 → ⊥) → 1 ≤ n
     there zero f = absurd (f refl)
@@ -216,7 +216,7 @@ ends-clear r = (there, back)
         let n = or-false (eqb (s .dims) 0) (uncovered s (s .coupling)) (b .0) in
         record {
           configuring = is-configuring (r .state) .0 (not-false (isConfiguring (r .state)) (a .0));
-          some = some (s .dims) .0 (n .0);
+          some = some-dimension (s .dims) .0 (n .0);
           covers = covers-clear s (s .coupling) .0 (n .1);
           low = λ k h. low-high s .0 (c .0) k h .0;
           high = λ k h. low-high s .0 (c .0) k h .1;
@@ -226,7 +226,7 @@ ends-clear r = (there, back)
     back : Ends r → firstOf (endChecks r) ≡ Nothing
     back x =
         more _ _ _ (configuring-clear r (x .configuring))
-        (more _ _ _ (neither _ _ (some (s .dims) .1 (x .some)) (covers-clear s (s .coupling) .1 (x .covers)))
+        (more _ _ _ (neither _ _ (some-dimension (s .dims) .1 (x .some)) (covers-clear s (s .coupling) .1 (x .covers)))
         (more _ _ _ (low-high s .1 (λ k h. (x .low k h, x .high k h)))
         (more _ _ [] (le-ltb 1048576 (product (highsOf s)) (x .few)) nothing)))
 
@@ -275,7 +275,7 @@ which-names loop (c ∷ cs) (suc k) h = go (eqb loop (c .calculation .first) || 
     go false e = e
 
 -- an open or finished stream
-stream-plain : (k : State) → ((isOpen k || isFinished k) ≡ true) ↔ ((k ≡ Open) ⊎ (k ≡ Finished))
+pub stream-plain : (k : State) → ((isOpen k || isFinished k) ≡ true) ↔ ((k ≡ Open) ⊎ (k ≡ Finished))
 stream-plain k = (there k, back)
   where
     there : (k : State) → (isOpen k || isFinished k) ≡ true → (k ≡ Open) ⊎ (k ≡ Finished)

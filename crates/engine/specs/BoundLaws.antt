@@ -2,8 +2,8 @@
 --
 --   lastsFrom, Under          the last indices by the highs from dimension d on; outer indices that pass none of them
 --   size-high, index-last     no size passes its high; an index below the size is at most the last one by its high
---   Passed, passed            what a shape passes that neither low nor high refuses
---   Bounded, bounded          low ≤ size ≤ high ≤ 4,096, and the exact size is not negative
+--   InBounds, passed            what a shape passes that neither low nor high refuses
+--   SizeBounded, bounded          low ≤ size ≤ high ≤ 4,096, and the exact size is not negative
 --   highs-none, highs-more, rule-none, rule-more   the highs and the rule of 8, dimension by dimension
 --   highs-next, lasts-next, under-more   one dimension more
 --   span-part                 what stands in a joined list stands in a part of it
@@ -49,7 +49,7 @@ index-last i n high p q = omega arith
 -- ---- what a shape passes that neither low nor high refuses
 
 -- low is not negative and high not above 4,096
-pub record Passed (s : Shape) (d : ℕ) : Type 0 where
+pub record InBounds (s : Shape) (d : ℕ) : Type 0 where
   pub low : nonNeg (lowAt s d (lastsFrom s (suc d))) ≡ true
   pub high : highAt s d (lastsFrom s (suc d)) ≤ 4096
 
@@ -75,7 +75,7 @@ passed-from s h (suc d) q =
     here-passed s d (s .dims - suc d) (sym (ap (lowOrHighFrom s d) z) ∙ passed-from s h d (omega arith)) .2
 
 -- each dimension of a shape that neither low nor high refuses
-pub passed : (s : Shape) → lowOrHigh s ≡ false → (d : ℕ) → d < s .dims → Passed s d
+pub passed : (s : Shape) → lowOrHigh s ≡ false → (d : ℕ) → d < s .dims → InBounds s d
 passed s h d q =
     let z : s .dims - d ≡ suc (s .dims - suc d) = omega arith in
     let w = here-passed s d (s .dims - suc d) (sym (ap (lowOrHighFrom s d) z) ∙ passed-from s h d (omega arith)) in
@@ -92,16 +92,16 @@ sub-nonneg a b e = go (ltb a b) refl
     go false p = ltb-false a b p
 
 -- at outer indices that pass no last one: the exact size is not negative, and low ≤ size ≤ high ≤ 4,096
-pub record Bounded (s : Shape) (d : ℕ) (outer : List ℕ) : Type 0 where
+pub record SizeBounded (s : Shape) (d : ℕ) (outer : List ℕ) : Type 0 where
   pub exact : pos (getD (s .sizes) d 0) +ℤ added Size d outer (modifiersOf s) ≡ pos (sizeAt s d outer)
   pub low : natural (lowAt s d (lastsFrom s (suc d))) ≤ sizeAt s d outer
   pub high : sizeAt s d outer ≤ highAt s d (lastsFrom s (suc d))
   pub most : highAt s d (lastsFrom s (suc d)) ≤ 4096
 
 -- so it is in each dimension of a shape that neither low nor high refuses
-pub bounded : (s : Shape) → lowOrHigh s ≡ false → (d : ℕ) → d < s .dims → (outer : List ℕ) → Under s (suc d) outer → Bounded s d outer
+pub bounded : (s : Shape) → lowOrHigh s ≡ false → (d : ℕ) → d < s .dims → (outer : List ℕ) → Under s (suc d) outer → SizeBounded s d outer
 bounded s h d q outer u =
-    let p : Passed s d = passed s h d q in
+    let p : InBounds s d = passed s h d q in
     let lasts : List ℕ = lastsFrom s (suc d) in
     let size : ℕ = getD (s .sizes) d 0 in
     let up : ℕ = gain Size Add d outer (modifiersOf s) in

@@ -1,15 +1,15 @@
 -- A calculation that is not refused, in plain terms: its checks against the conditions of Allowed.
 --
 --   inside-lies, outside-lie                 elements inside memory
---   source-clear, sink-clear                 a source, a destination
+--   source-clear, destination-clear, store-clear   a source, a destination, a destination that is open
 --   calculates-passed, passed-calculates, calculates-clear   a calculation
-use Prim.Native.Nat.{ℕ, zero, suc, _+_, _<_}
+use Prim.Native.Nat.{ℕ, zero, suc, _+_}
 use mathlib.Core.Path.{_≡_, refl, sym, _∙_, ap}
 use mathlib.Core.Logic.{_↔_}
 use mathlib.Core.List.{List, [], _∷_}
 use mathlib.Core.Bool.{Bool, true, false, not, _&&_}
 use native.Mathlib.Omega.{arith}
-use lib.ListN.{length, getD, take}
+use lib.ListN.{take}
 use lib.Dec.{leb, eqb}
 use lib.IntN.{ℤ, pos, negsuc}
 use borrow.Author.Tests.{ltb-false, le-ltb, eqb-true, eq-eqb, not-false}
@@ -20,8 +20,8 @@ use Rattle.codec.specs.declared.operation.Calculation.{Calculation}
 use Rattle.engine.specs.Addresses.{address, inside}
 use Rattle.engine.specs.Registers.{isConfiguring, isOpen, isFinished, isLoad, openLoad, openStore, nextChunk}
 use Rattle.engine.specs.Calculate.{World, allInside, outside, refusalOf}
-use Rattle.engine.specs.CalculationLaws.{Passed as AllPassed, checked, not-refused}
-use Rattle.engine.specs.Allowed.{Lies, AllLie, Source, Sink, CalculatesOn, Calculates}
+use Rattle.engine.specs.CalculationLaws.{ChecksPassed, checked, not-refused}
+use Rattle.engine.specs.Allowed.{Lies, AllLie, OpenLie, Source, Destination, CalculatesOn, Calculates}
 use Rattle.engine.specs.declared.check.Why.the-variants.{Nothing}
 use Rattle.engine.specs.declared.stream.Pattern.{Pattern}
 use Rattle.engine.specs.declared.register.State.{State}
@@ -37,33 +37,29 @@ inside-lies len width (pos n) = (
 )
 inside-lies len width (negsuc n) = (λ e. never e, λ h. absurd (h .least .le))
 
--- elements inside memory
-abbrev AllIn : Pattern → ℕ → ℕ → List (List ℕ) → Type 0
-AllIn p width len vs = (k : ℕ) → k < length vs → Lies len width (address p width (getD vs k []))
-
 -- every one, tested
-all-inside : (p : Pattern) (width len : ℕ) (vs : List (List ℕ)) → (allInside p width len vs ≡ true) ↔ AllIn p width len vs
+all-inside : (p : Pattern) (width len : ℕ) (vs : List (List ℕ)) → (allInside p width len vs ≡ true) ↔ AllLie len width p vs
 unfolding allInside
 all-inside p width len [] = (λ e k h. absurd (omega arith), λ h. refl)
 all-inside p width len (v ∷ vs) = (there (all-inside p width len vs .0), back (all-inside p width len vs .1))
   where
-    there : (allInside p width len vs ≡ true → AllIn p width len vs) → allInside p width len (v ∷ vs) ≡ true → AllIn p width len (v ∷ vs)
+    there : (allInside p width len vs ≡ true → AllLie len width p vs) → allInside p width len (v ∷ vs) ≡ true → AllLie len width p (v ∷ vs)
     there ih e zero h = inside-lies len width (address p width v) .0 (both (inside len width (address p width v)) (allInside p width len vs) e .0)
     there ih e (suc k) h = ih (both (inside len width (address p width v)) (allInside p width len vs) e .1) k (omega arith)
 
-    back : (AllIn p width len vs → allInside p width len vs ≡ true) → AllIn p width len (v ∷ vs) → allInside p width len (v ∷ vs) ≡ true
+    back : (AllLie len width p vs → allInside p width len vs ≡ true) → AllLie len width p (v ∷ vs) → allInside p width len (v ∷ vs) ≡ true
     back ih h = and-both _ _ (inside-lies len width (address p width v) .1 (h 0 (omega arith))) (ih (λ k q. h (suc k) (omega arith)))
 
 -- those that an open stream would move
-pub outside-lie : (len : ℕ) (r : Register) (vs : List (List ℕ)) → (outside len r vs ≡ false) ↔ AllLie len r vs
+pub outside-lie : (len : ℕ) (r : Register) (vs : List (List ℕ)) → (outside len r vs ≡ false) ↔ OpenLie len r vs
 outside-lie len r vs = (there, λ h. back (isOpen (r .state)) refl h)
   where
-    there : outside len r vs ≡ false → AllLie len r vs
+    there : outside len r vs ≡ false → OpenLie len r vs
     there e o =
         all-inside (r .pattern) (r .width) len vs .0
         (not-false _ (and-false (isOpen (r .state)) (not (allInside (r .pattern) (r .width) len vs)) e (is-open (r .state) .1 o)))
 
-    back : (b : Bool) → isOpen (r .state) ≡ b → AllLie len r vs → (b && not (allInside (r .pattern) (r .width) len vs)) ≡ false
+    back : (b : Bool) → isOpen (r .state) ≡ b → OpenLie len r vs → (b && not (allInside (r .pattern) (r .width) len vs)) ≡ false
     back true e h = ap not (all-inside (r .pattern) (r .width) len vs .1 (h (is-open (r .state) .0 e)))
     back false e h = refl
 
@@ -83,35 +79,35 @@ source-clear r = (λ h. there (r .state) (r .kind) refl refl (h .0) (h .1) (h .2
     back (Source.load p q) = (ap isConfiguring p, ap isFinished p, λ i. isOpen (p i) && not (isLoad (q i)))
 
 -- a destination
-pub sink-clear : (r : Register) → ((isConfiguring (r .state) ≡ false) × (isFinished (r .state) ≡ false) × (openLoad r ≡ false)) ↔ Sink r
-sink-clear r = (λ h. there (r .state) (r .kind) refl refl (h .0) (h .1) (h .2), back)
+pub destination-clear : (r : Register) → ((isConfiguring (r .state) ≡ false) × (isFinished (r .state) ≡ false) × (openLoad r ≡ false)) ↔ Destination r
+destination-clear r = (λ h. there (r .state) (r .kind) refl refl (h .0) (h .1) (h .2), back)
   where
-    there : (k : State) (l : Kind) → r .state ≡ k → r .kind ≡ l → isConfiguring k ≡ false → isFinished k ≡ false → (isOpen k && isLoad l) ≡ false → Sink r
-    there Plain l p q a b c = Sink.plain p
+    there : (k : State) (l : Kind) → r .state ≡ k → r .kind ≡ l → isConfiguring k ≡ false → isFinished k ≡ false → (isOpen k && isLoad l) ≡ false → Destination r
+    there Plain l p q a b c = Destination.plain p
     there Configuring l p q a b c = never-true a
     there Open Load p q a b c = never-true c
-    there Open Store p q a b c = Sink.store p q
+    there Open Store p q a b c = Destination.store p q
     there Finished l p q a b c = never-true b
 
-    back : Sink r → (isConfiguring (r .state) ≡ false) × (isFinished (r .state) ≡ false) × (openLoad r ≡ false)
-    back (Sink.plain p) = (ap isConfiguring p, ap isFinished p, ap (λ k. isOpen k && isLoad (r .kind)) p)
-    back (Sink.store p q) = (ap isConfiguring p, ap isFinished p, λ i. isOpen (p i) && isLoad (q i))
+    back : Destination r → (isConfiguring (r .state) ≡ false) × (isFinished (r .state) ≡ false) × (openLoad r ≡ false)
+    back (Destination.plain p) = (ap isConfiguring p, ap isFinished p, ap (λ k. isOpen k && isLoad (r .kind)) p)
+    back (Destination.store p q) = (ap isConfiguring p, ap isFinished p, λ i. isOpen (p i) && isLoad (q i))
 
 -- a check of a store stream: one that is open
-store-clear : (d : Register) (b : Bool) → Sink d → ((openStore d && b) ≡ false) ↔ (d .state ≡ Open → b ≡ false)
-store-clear d b (Sink.plain p) = (
+pub store-clear : (d : Register) (b : Bool) → Destination d → ((openStore d && b) ≡ false) ↔ (d .state ≡ Open → b ≡ false)
+store-clear d b (Destination.plain p) = (
   λ e o. absurd (let z : _≡_ {A = State} Plain Open = sym p ∙ o in let y : _≡_ {A = ℕ} 0 1 = cc in omega arith),
   λ h. ap (λ k. (isOpen k && not (isLoad (d .kind))) && b) p,
 )
-store-clear d b (Sink.store p q) =
+store-clear d b (Destination.store p q) =
     let t : openStore d ≡ true = λ i. isOpen (p i) && not (isLoad (q i)) in
     (λ e o. and-false (openStore d) b e t, λ h. and-right (openStore d) b (h p))
 
 module _ (vl len n m : ℕ) (a b d : Register) where
   -- a calculation that passes its checks
-  pub calculates-passed : AllPassed vl len n m a b d → CalculatesOn vl len n m a b d
+  pub calculates-passed : ChecksPassed vl len n m a b d → CalculatesOn vl len n m a b d
   calculates-passed p =
-      let s : Sink d = sink-clear d .0 (p .destination-state, p .destination-ended, p .destination-kind) in
+      let s : Destination d = destination-clear d .0 (p .destination-state, p .destination-ended, p .destination-kind) in
       let w = or-false (not (eqb (a .width) (b .width))) _ (p .widths) in
       let l = or-false (not (eqb n m)) _ (p .counts) in
       record {
@@ -128,11 +124,11 @@ module _ (vl len n m : ℕ) (a b d : Register) where
       }
 
   -- and the reverse
-  pub passed-calculates : CalculatesOn vl len n m a b d → AllPassed vl len n m a b d
+  pub passed-calculates : CalculatesOn vl len n m a b d → ChecksPassed vl len n m a b d
   passed-calculates c =
       let f = source-clear a .1 (c .first) in
       let g = source-clear b .1 (c .second) in
-      let s = sink-clear d .1 (c .destination) in
+      let s = destination-clear d .1 (c .destination) in
       record {
         first-state = f .0;
         first-ended = f .1;

@@ -1,7 +1,7 @@
 -- The checks of a calculation that is not refused.
 --
 --   Named, named                               the registers that a calculation names are among the 32
---   Passed, passed, nothing, unrefused         the checks that did not apply, by name
+--   ChecksPassed, passed, nothing, unrefused         the checks that did not apply, by name
 --   PassedIn, checked, not-refused             those of a calculation in a world: not refused exactly if it passes them
 use Prim.Native.Nat.{ℕ, _<_}
 use mathlib.Core.Path.{_≡_, refl}
@@ -33,7 +33,7 @@ named c e =
     record { first = omega (arith, r .1); second = omega (arith, r .2); destination = omega (arith, r .0) }
 
 -- the checks of a calculation that did not apply: on first source a, second source b, destination d, with n lanes of a and m of b
-pub record Passed (vl len n m : ℕ) (a b d : Register) : Type 0 where
+pub record ChecksPassed (vl len n m : ℕ) (a b d : Register) : Type 0 where
   pub first-state : isConfiguring (a .state) ≡ false
   pub first-ended : isFinished (a .state) ≡ false
   pub first-kind : openStore a ≡ false
@@ -50,7 +50,7 @@ pub record Passed (vl len n m : ℕ) (a b d : Register) : Type 0 where
   pub destination-inside : outside len d (take n (nextChunk vl d)) ≡ false
 
 -- where no check gives a refusal, each was passed
-pub passed : (vl len n m : ℕ) (a b d : Register) → firstOf (checksOn vl len n m a b d) ≡ Nothing → Passed vl len n m a b d
+pub passed : (vl len n m : ℕ) (a b d : Register) → firstOf (checksOn vl len n m a b d) ≡ Nothing → ChecksPassed vl len n m a b d
 passed vl len n m a b d e =
     let k1 = next _ _ _ e in
     let k2 = next _ _ _ (k1 .1) in
@@ -89,7 +89,7 @@ unfolding firstOf
 nothing = refl
 
 -- and the reverse
-pub unrefused : (vl len n m : ℕ) (a b d : Register) → Passed vl len n m a b d → firstOf (checksOn vl len n m a b d) ≡ Nothing
+pub unrefused : (vl len n m : ℕ) (a b d : Register) → ChecksPassed vl len n m a b d → firstOf (checksOn vl len n m a b d) ≡ Nothing
 unrefused vl len n m a b d p =
     more _ _ _ (p .first-state)
     (more _ _ _ (p .first-ended)
@@ -109,7 +109,7 @@ unrefused vl len n m a b d p =
 -- the checks of a calculation in a world
 abbrev pub PassedIn : ℕ → Calculation → World → Type 0
 PassedIn vl c w =
-    Passed vl (length (w .memory))
+    ChecksPassed vl (length (w .memory))
     (length (given vl (w .memory) (reg (w .machine) (c .first))))
     (length (given vl (w .memory) (reg (w .machine) (c .second))))
     (reg (w .machine) (c .first))

@@ -15,11 +15,12 @@ use lib.ListN.{length, getD, take, drop, length-take, length-drop}
 use lib.Seq.{getD-take, getD-drop}
 use Rattle.codec.specs.declared.header.Coupling.{Coupling}
 use Rattle.codec.specs.declared.header.Coupling.the-variants.{Uncoupled, Coupled}
+use Rattle.engine.specs.Configure.{Covers}
 use Rattle.engine.specs.Loops.{sizeAt, elements}
-use Rattle.engine.specs.Chunks.{groups, groupsOf, chunk}
+use Rattle.engine.specs.Chunks.{groups, streamGroups, chunk}
 use Rattle.engine.specs.FlagLaws.{differ-drop, loops-even}
 use Rattle.engine.specs.GroupLaws.{leftInGroup, left-most, left-step}
-use Rattle.engine.specs.ChunkLaws.{Covered, covered, groups-join, chunk-length, chunk-lanes, chunk-some, chunk-elements}
+use Rattle.engine.specs.ChunkLaws.{covered, groups-join, chunk-length, chunk-lanes, chunk-some, chunk-elements}
 use Rattle.engine.specs.PassLaws.{same-group, group-uncoupled}
 use Rattle.engine.specs.Good.{Accepted}
 use Rattle.engine.specs.Histories.{PassEnds, Chunk}
@@ -81,27 +82,27 @@ left-by gs n (suc k) h =
 
 module _ (s : Shape) (a : Accepted s) where
   -- the coupled dimension is there
-  cover : Covered (s .dims) (s .coupling)
+  cover : Covers (s .dims) (s .coupling)
   cover = covered s (s .coupling) (a .covered)
 
   -- a group ends where the stream does, or before
-  left-in : (n : ℕ) → n ≤ length (elements s) → n + leftInGroup (groupsOf s) n ≤ length (elements s)
+  left-in : (n : ℕ) → n ≤ length (elements s) → n + leftInGroup (streamGroups s) n ≤ length (elements s)
   unfolding elements
-  left-in n h = omega (arith, left-most (groupsOf s) n, ap length (groups-join (sizeAt s) (s .dims) (s .coupling) cover))
+  left-in n h = omega (arith, left-most (streamGroups s) n, ap length (groups-join (sizeAt s) (s .dims) (s .coupling) cover))
 
   -- coupled to dimension c: the next element differs in no index above it exactly if it is of the same group
   same-pass : (c : ℕ) → s .coupling ≡ Coupled c → (n : ℕ) → suc n < length (elements s)
-      → (drop c (getD (elements s) n []) ≡ drop c (getD (elements s) (suc n) [])) ↔ (1 < leftInGroup (groupsOf s) n)
+      → (drop c (getD (elements s) n []) ≡ drop c (getD (elements s) (suc n) [])) ↔ (1 < leftInGroup (streamGroups s) n)
   unfolding elements
   same-pass c e n h =
       let d = differ-drop c _ _ (loops-even (sizeAt s) 0 (s .dims) [] n (suc n) (omega arith) h) in
-      let g = same-group (sizeAt s) (s .dims) c (subst (Covered (s .dims)) e cover) n h in
+      let g = same-group (sizeAt s) (s .dims) c (subst (Covers (s .dims)) e cover) n h in
       subst
       (λ k. (drop c (getD (elements s) n []) ≡ drop c (getD (elements s) (suc n) [])) ↔ (1 < leftInGroup (groups (sizeAt s) (s .dims) k) n)) (sym e)
       (λ q. g .0 (d .1 q), λ q. d .0 (g .1 q))
 
   -- where a group ends before the stream does, a pass ends
-  pass-ends : (n : ℕ) → 1 ≤ n → n < length (elements s) → leftInGroup (groupsOf s) (n - 1) ≡ 1 → PassEnds s n
+  pass-ends : (n : ℕ) → 1 ≤ n → n < length (elements s) → leftInGroup (streamGroups s) (n - 1) ≡ 1 → PassEnds s n
   unfolding elements
   pass-ends n p h e = go (s .coupling) refl
     where
@@ -118,13 +119,13 @@ module _ (s : Shape) (a : Accepted s) where
 
   module _ (lanes n : ℕ) (p : 1 ≤ lanes) (h : n < length (elements s)) where
     -- its length: the lanes, or what is left of the group if that is less
-    size : length (chunk s lanes n) ≡ min lanes (leftInGroup (groupsOf s) n)
-    size = chunk-length (groupsOf s) lanes n
+    size : length (chunk s lanes n) ≡ min lanes (leftInGroup (streamGroups s) n)
+    size = chunk-length (streamGroups s) lanes n
 
     -- it has an element
     some : 1 ≤ length (chunk s lanes n)
     unfolding elements
-    some = chunk-some (groupsOf s) lanes n p (omega (arith, ap length (groups-join (sizeAt s) (s .dims) (s .coupling) cover)))
+    some = chunk-some (streamGroups s) lanes n p (omega (arith, ap length (groups-join (sizeAt s) (s .dims) (s .coupling) cover)))
 
     -- if coupled, its elements are of one pass
     one-pass : (c : ℕ) → s .coupling ≡ Coupled c → (k : ℕ) → suc k < length (chunk s lanes n)
@@ -133,18 +134,18 @@ module _ (s : Shape) (a : Accepted s) where
         let f = chunk-at s n (chunk s lanes n) (chunk-elements s lanes n cover) in
         let j : n + suc k ≡ suc (n + k) = omega arith in
         ap (drop c) (f k (omega arith))
-        ∙ same-pass c e (n + k) (omega (arith, size, left-in n (omega arith))) .1 (omega (arith, size, left-by (groupsOf s) n k (omega (arith, size))))
+        ∙ same-pass c e (n + k) (omega (arith, size, left-in n (omega arith))) .1 (omega (arith, size, left-by (streamGroups s) n k (omega (arith, size))))
         ∙ ap (drop c) (sym (f (suc k) q ∙ ap (λ i. getD (elements s) i []) j))
 
     -- it is shorter than the lanes only at the end of the stream or of a pass
     full : length (chunk s lanes n) < lanes
         → (n + length (chunk s lanes n) ≡ length (elements s)) ⊎ PassEnds s (n + length (chunk s lanes n))
     full q =
-        let e : length (chunk s lanes n) ≡ leftInGroup (groupsOf s) n = omega (arith, size) in
+        let e : length (chunk s lanes n) ≡ leftInGroup (streamGroups s) n = omega (arith, size) in
         let k : ℕ = length (chunk s lanes n) - 1 in
         let j : n + length (chunk s lanes n) - 1 ≡ n + k = omega (arith, some) in
-        let l : leftInGroup (groupsOf s) (n + k) ≡ 1 = omega (arith, some, left-by (groupsOf s) n k (omega (arith, some))) in
-        ⊎-map (λ r. r) (λ r. pass-ends _ (omega (arith, some)) r (ap (leftInGroup (groupsOf s)) j ∙ l))
+        let l : leftInGroup (streamGroups s) (n + k) ≡ 1 = omega (arith, some, left-by (streamGroups s) n k (omega (arith, some))) in
+        ⊎-map (λ r. r) (λ r. pass-ends _ (omega (arith, some)) r (ap (leftInGroup (streamGroups s)) j ∙ l))
         (eq-or-lt-of-le (subst (λ i. n + i ≤ length (elements s)) (sym e) (left-in n (omega arith))))
 
     -- the engine's chunk is one
@@ -152,7 +153,7 @@ module _ (s : Shape) (a : Accepted s) where
     chunk-is = record {
       front = chunk-elements s lanes n cover;
       some = some;
-      most = chunk-lanes (groupsOf s) lanes n;
+      most = chunk-lanes (streamGroups s) lanes n;
       one-pass = one-pass;
       full = full;
     }

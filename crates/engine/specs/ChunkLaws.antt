@@ -1,7 +1,7 @@
 -- Chunks take the elements in order, each once.
 --
 --   passes-join, groups-join  the passes, and the groups, joined are the elements
---   Covered, covered          a coupled dimension is one of the dimensions
+--   covered                   a coupled dimension is one of the dimensions
 --   chunkOf-front             the next chunk is the front of what is left
 --   chunk-length, chunk-lanes, chunk-most   its length: the lanes, or what is left of the group if that is less; at most the lanes; at most what is left
 --   chunk-some                it is not empty where an element is left
@@ -25,7 +25,7 @@ use Rattle.codec.specs.declared.header.Coupling.the-variants.{Uncoupled, Couple
 use Rattle.engine.specs.Loops.{sizeAt, span, loops, elements}
 use Rattle.engine.specs.Chunks.{passes, groups, leftAfter, nextGroup, chunkOf, chunk}
 use Rattle.engine.specs.GroupLaws.{join, join-append, join-withElements, leftAfter-join, leftInGroup, left-some, left-most, nextGroup-front}
-use Rattle.engine.specs.Configure.{uncovered}
+use Rattle.engine.specs.Configure.{uncovered, Covers}
 use Rattle.engine.specs.declared.stream.Shape.{Shape}
 
 -- what f gives of all members, joined, is what it gives part by part, joined
@@ -53,18 +53,13 @@ pub passes-join : (size : ℕ → List ℕ → ℕ) (c D : ℕ) → c ≤ D → 
 unfolding passes
 passes-join size c D h = let e : c + (D - c) ≡ D = omega arith in loops-join size c (D - c) [] ∙ ap (λ n. loops size 0 n []) e
 
--- a coupled dimension is one of the dimensions
-abbrev pub Covered : ℕ → Coupling → Type 0
-Covered D Uncoupled = Unit {0}
-Covered D (Coupled c) = c ≤ D
-
--- as end asks
-pub covered : (s : Shape) (k : Coupling) → uncovered s k ≡ false → Covered (s .dims) k
+-- a coupled dimension is one of the dimensions, as end asks
+pub covered : (s : Shape) (k : Coupling) → uncovered s k ≡ false → Covers (s .dims) k
 covered s Uncoupled e = tt
 covered s (Coupled c) e = ltb-false (s .dims) c e
 
 -- the groups joined are the elements
-pub groups-join : (size : ℕ → List ℕ → ℕ) (D : ℕ) (k : Coupling) → Covered D k → join (groups size D k) ≡ loops size 0 D []
+pub groups-join : (size : ℕ → List ℕ → ℕ) (D : ℕ) (k : Coupling) → Covers D k → join (groups size D k) ≡ loops size 0 D []
 unfolding groups join
 groups-join size D Uncoupled h = join-withElements _ ∙ append-nil (loops size 0 D [])
 groups-join size D (Coupled c) h = join-withElements _ ∙ passes-join size c D h
@@ -175,6 +170,6 @@ module _ {A : Type 0} where
       nothing (x ∷ l) h = absurd (omega arith)
 
 -- the next chunk of a stream is the front of its elements that are left
-pub chunk-elements : (s : Shape) (lanes n : ℕ) → Covered (s .dims) (s .coupling) → chunk s lanes n ≡ take (length (chunk s lanes n)) (drop n (elements s))
+pub chunk-elements : (s : Shape) (lanes n : ℕ) → Covers (s .dims) (s .coupling) → chunk s lanes n ≡ take (length (chunk s lanes n)) (drop n (elements s))
 unfolding elements
 chunk-elements s lanes n h = chunkOf-front _ lanes n ∙ ap (λ l. take (length (chunk s lanes n)) (drop n l)) (groups-join (sizeAt s) (s .dims) (s .coupling) h)

@@ -50,15 +50,16 @@ nextGroup (g ∷ gs) = g
 unfoldable pub chunkOf : {A : Type 0} → List (List A) → ℕ → ℕ → List A
 chunkOf gs lanes n = take lanes (nextGroup (leftAfter n gs))
 
--- the groups of a stream's elements
-abbrev pub groupsOf : Shape → List (List (List ℕ))
-groupsOf s = groups (sizeAt s) (s .dims) (s .coupling)
+-- the groups of a stream's elements, by its coupling
+abbrev pub streamGroups : Shape → List (List (List ℕ))
+streamGroups s = groups (sizeAt s) (s .dims) (s .coupling)
 
 -- a stream's next chunk at so many lanes, after n elements
 abbrev pub chunk : Shape → ℕ → ℕ → List (List ℕ)
-chunk s lanes n = chunkOf (groupsOf s) lanes n
+chunk s lanes n = chunkOf (streamGroups s) lanes n
 
--- n, or more if something above it is more than 0
+-- the highest dimension in which two elements differ, from n, 1 or 0, that of their first indices, and that of the others, counted from
+-- these: one more than that of the others if they differ, else n
 abbrev pub orAbove : ℕ → ℕ → ℕ
 orAbove n zero = n
 orAbove n (suc h) = suc (suc h)

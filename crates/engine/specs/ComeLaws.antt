@@ -21,9 +21,10 @@ use lib.Pow.{pow-pos}
 use lib.Dec.{leb}
 use borrow.Author.Tests.{leb-true, lt-leb}
 use Rattle.codec.specs.TestLaws.{never}
+use Rattle.engine.specs.Configure.{Covers}
 use Rattle.engine.specs.Loops.{sizeAt, elements}
-use Rattle.engine.specs.Chunks.{groupsOf, chunk}
-use Rattle.engine.specs.ChunkLaws.{Covered, covered, groups-join, chunk-lanes, chunk-some, chunk-elements}
+use Rattle.engine.specs.Chunks.{streamGroups, chunk}
+use Rattle.engine.specs.ChunkLaws.{covered, groups-join, chunk-lanes, chunk-some, chunk-elements}
 use Rattle.engine.specs.Memory.{holding}
 use Rattle.engine.specs.Registers.{isOpen, isFinished, shapeOf, toCome, nextChunk, stateAfter, standing, movedTo, movedBy}
 use Rattle.engine.specs.Good.{IsWidth, Good}
@@ -76,7 +77,7 @@ split n r e =
     ∙ take-append-drop n (drop (r .moved) (elements (shapeOf r))))
 
 -- an open stream has its coupled dimension
-open-covered : (vl : ℕ) (r : Register) → Good vl r → isOpen (r .state) ≡ true → Covered (shapeOf r .dims) (shapeOf r .coupling)
+open-covered : (vl : ℕ) (r : Register) → Good vl r → isOpen (r .state) ≡ true → Covers (shapeOf r .dims) (shapeOf r .coupling)
 open-covered vl r g e = covered (shapeOf r) (shapeOf r .coupling) (g .opened e .0 .accepted .covered)
 
 -- the next chunk is the front of what is to come
@@ -89,7 +90,7 @@ next-front vl r g e =
 -- it has at most as many elements as there are lanes
 pub next-lanes : (vl : ℕ) (r : Register) → length (nextChunk vl r) ≤ vl / r .width
 unfolding nextChunk
-next-lanes vl r = chunk-lanes (groupsOf (shapeOf r)) (vl / r .width) (r .moved)
+next-lanes vl r = chunk-lanes (streamGroups (shapeOf r)) (vl / r .width) (r .moved)
 
 -- of an open stream as many are to come as have not moved
 come-length : (r : Register) → isOpen (r .state) ≡ true → length (toCome r) ≡ length (elements (shapeOf r)) - r .moved
@@ -105,7 +106,7 @@ next-within vl r g e =
 pub next-some : (vl : ℕ) (r : Register) → 8 ≤ vl → Good vl r → isOpen (r .state) ≡ true → 0 < length (nextChunk vl r)
 unfolding nextChunk elements
 next-some vl r h g e =
-    chunk-some (groupsOf (shapeOf r)) (vl / r .width) (r .moved) (lanes-some vl (r .width) h (g .width))
+    chunk-some (streamGroups (shapeOf r)) (vl / r .width) (r .moved) (lanes-some vl (r .width) h (g .width))
     (subst (λ l. r .moved < length l) (sym (groups-join (sizeAt (shapeOf r)) (shapeOf r .dims) (shapeOf r .coupling) (open-covered vl r g e))) (g .opened e .1))
 
 -- a stream that was ended

@@ -1,10 +1,11 @@
 -- The four configuring operations.
 --
+--   uncovered, Covers               the coupled dimension, missing or there
 --   openChecks .. endChecks         why each is refused, in 01's order
 --   opened .. ended                 what each that is not refused makes of its register
 --   registerOf, checksFor, applied  of any of them
 --   configured                      on the machine
-use Prim.Native.Nat.{ℕ, _+_, _-_}
+use Prim.Native.Nat.{ℕ, _+_, _-_, _≤_}
 use mathlib.Core.List.{List, [], _∷_}
 use mathlib.Core.Bool.{Bool, false, not, _||_}
 use lib.ListN.{set}
@@ -48,10 +49,15 @@ modifierChecks target r =
     ∷ Misplaced if leb (shapeOf r .dims) (target + 1)
     ∷ []
 
--- the coupled dimension is missing
+-- "coupled dimension missing": the dimensions do not cover the coupling
 abbrev pub uncovered : Shape → Coupling → Bool
 uncovered s Uncoupled = false
 uncovered s (Coupled c) = ltb (s .dims) c
+
+-- the coupled dimension is there: so many dimensions cover the coupling
+abbrev pub Covers : ℕ → Coupling → Type 0
+Covers dims Uncoupled = Unit {0}
+Covers dims (Coupled c) = c ≤ dims
 
 -- 5, then 7: "end with no dimension; coupled dimension missing", then 8, then 9
 abbrev pub endChecks : Register → List Check

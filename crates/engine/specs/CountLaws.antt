@@ -1,8 +1,8 @@
 -- The product rule bounds the loops.
 --
---   total, begun        f k + f (k + 1) + ..; the iterations that loops begin, at all levels
+--   iterations          the iterations that loops begin, at all levels
 --   few                 there are at most as many elements as the product over the highs
---   begun-few           at most that many iterations begin in each dimension
+--   iterations-few      at most that many iterations begin in each dimension
 use Prim.Native.Nat.{ℕ, zero, suc, _+_, _-_, _*_, _/_, _≤_, _<_, max}
 use mathlib.Core.Path.{_≡_, refl, sym, _∙_, ap, subst}
 use mathlib.Core.List.{List, [], _∷_}
@@ -11,31 +11,27 @@ use native.Mathlib.Nat.{mul-le-mul-right, le-div-iff-mul-le, mul-div-le, mul-com
 use lib.ListN.{length, length-append}
 use Rattle.engine.specs.Loops.{sizeAt, span, loops, elements}
 use Rattle.engine.specs.Rules.{highAt, highs, highsOf, product}
+use Rattle.engine.specs.Walk.{sum}
 use Rattle.engine.specs.BoundLaws.{Under, lastsFrom, size-high, highs-next, under-more}
 use Rattle.engine.specs.declared.stream.Shape.{Shape}
 
--- f k + f (k + 1) + .., n of them
-unfoldable pub total : (ℕ → ℕ) → ℕ → ℕ → ℕ
-total f k zero = 0
-total f k (suc n) = f k + total f (suc k) n
-
 -- the iterations that the loops of n dimensions from d on begin, at all levels
-unfoldable pub begun : (ℕ → List ℕ → ℕ) → ℕ → ℕ → List ℕ → ℕ
-begun size d zero outer = 0
-begun size d (suc n) outer = total (λ k. 1 + begun size d n (k ∷ outer)) 0 (size (d + n) outer)
+unfoldable pub iterations : (ℕ → List ℕ → ℕ) → ℕ → ℕ → List ℕ → ℕ
+iterations size d zero outer = 0
+iterations size d (suc n) outer = sum (λ k. 1 + iterations size d n (k ∷ outer)) 0 (size (d + n) outer)
 
 -- the length of parts in a row is the sum of their lengths
-length-span : {A : Type 0} (f : ℕ → List A) (k n : ℕ) → length (span f k n) ≡ total (λ i. length (f i)) k n
-unfolding span total
+length-span : {A : Type 0} (f : ℕ → List A) (k n : ℕ) → length (span f k n) ≡ sum (λ i. length (f i)) k n
+unfolding span sum
 length-span f k zero = refl
 length-span f k (suc n) = omega (arith, length-append (f k) (span f (suc k) n), length-span f (suc k) n)
 
 -- a sum of n terms, each of which times c is at most b
-total-most : (f : ℕ → ℕ) (k n c b : ℕ) → ((i : ℕ) → i < k + n → f i * c ≤ b) → total f k n * c ≤ n * b
-unfolding total
-total-most f k zero c b h = omega (arith, zero-mul c, zero-mul b)
-total-most f k (suc n) c b h =
-    omega (arith, add-mul (f k) (total f (suc k) n) c, suc-mul n b, h k (omega arith), total-most f (suc k) n c b (λ i q. h i (omega arith)))
+sum-most : (f : ℕ → ℕ) (k n c b : ℕ) → ((i : ℕ) → i < k + n → f i * c ≤ b) → sum f k n * c ≤ n * b
+unfolding sum
+sum-most f k zero c b h = omega (arith, zero-mul c, zero-mul b)
+sum-most f k (suc n) c b h =
+    omega (arith, add-mul (f k) (sum f (suc k) n) c, suc-mul n b, h k (omega arith), sum-most f (suc k) n c b (λ i q. h i (omega arith)))
 
 -- the product over one dimension more
 pub product-next : (s : Shape) (d : ℕ) → d < s .dims
@@ -56,7 +52,7 @@ turn l m q = ap (λ y. l * y) (mul-comm m q) ∙ sym (mul-assoc l q m)
 -- times the product over the dimensions outside n
 one-more : (s : Shape) (n all : ℕ) (outer : List ℕ) (f : ℕ → ℕ) → n < s .dims → Under s (suc n) outer
     → ((i : ℕ) → i < sizeAt s n outer → f i * product (highs s n (s .dims - n)) ≤ all)
-    → total f 0 (sizeAt s n outer) * product (highs s (suc n) (s .dims - suc n)) ≤ all
+    → sum f 0 (sizeAt s n outer) * product (highs s (suc n) (s .dims - suc n)) ≤ all
 one-more s n all outer f h u each =
     let m : ℕ = max 1 (highAt s n (lastsFrom s (suc n))) in
     let q : ℕ = product (highs s (suc n) (s .dims - suc n)) in
@@ -65,7 +61,7 @@ one-more s n all outer f h u each =
     let part : (i : ℕ) → i < 0 + size → f i * q ≤ all / m = λ i p.
     let r : f i * (m * q) ≤ all = subst (λ y. f i * y ≤ all) (product-next s n h) (each i (omega arith)) in
     le-div-iff-mul-le {k = m} (omega arith) .1 (subst (λ y. y ≤ all) (turn (f i) m q) r) in
-    let sum : total f 0 size * q ≤ size * (all / m) = total-most f 0 size q (all / m) part in
+    let most : sum f 0 size * q ≤ size * (all / m) = sum-most f 0 size q (all / m) part in
     let up : size * (all / m) ≤ m * (all / m) = mul-le-mul-right (all / m) (omega arith) in
     omega (arith, mul-div-le all m)
 
@@ -79,9 +75,9 @@ count-loops s (suc n) outer h u =
     let z : 0 + n ≡ n = omega arith in
     let f : ℕ → ℕ = λ i. length (loops (sizeAt s) 0 n (i ∷ outer)) in
     let q : ℕ = product (highs s (suc n) (s .dims - suc n)) in
-    let same : length (span (λ k. loops (sizeAt s) 0 n (k ∷ outer)) 0 (sizeAt s (0 + n) outer)) ≡ total f 0 (sizeAt s n outer) =
-    length-span (λ k. loops (sizeAt s) 0 n (k ∷ outer)) 0 (sizeAt s (0 + n) outer) ∙ ap (λ k. total f 0 (sizeAt s k outer)) z in
-    let all : total f 0 (sizeAt s n outer) * q ≤ product (highsOf s) =
+    let same : length (span (λ k. loops (sizeAt s) 0 n (k ∷ outer)) 0 (sizeAt s (0 + n) outer)) ≡ sum f 0 (sizeAt s n outer) =
+    length-span (λ k. loops (sizeAt s) 0 n (k ∷ outer)) 0 (sizeAt s (0 + n) outer) ∙ ap (λ k. sum f 0 (sizeAt s k outer)) z in
+    let all : sum f 0 (sizeAt s n outer) * q ≤ product (highsOf s) =
     one-more s n (product (highsOf s)) outer f h u (λ i p. count-loops s n (i ∷ outer) (omega arith) (under-more s n h outer u i p)) in
     subst (λ y. y * q ≤ product (highsOf s)) (sym same) all
 
@@ -105,25 +101,25 @@ outer-most s (suc n) h =
     omega (arith, outer-most s n (omega arith), product-next s n h, one-mul q)
 
 -- the iterations of the first n dimensions, times the product over the others, are at most n times the product over all
-count-begun : (s : Shape) (n : ℕ) (outer : List ℕ) → n ≤ s .dims → Under s n outer
-    → begun (sizeAt s) 0 n outer * product (highs s n (s .dims - n)) ≤ n * product (highsOf s)
-unfolding begun
-count-begun s zero outer h u = omega (arith, zero-mul (product (highs s 0 (s .dims - 0))), zero-mul (product (highsOf s)))
-count-begun s (suc n) outer h u =
+count-iterations : (s : Shape) (n : ℕ) (outer : List ℕ) → n ≤ s .dims → Under s n outer
+    → iterations (sizeAt s) 0 n outer * product (highs s n (s .dims - n)) ≤ n * product (highsOf s)
+unfolding iterations
+count-iterations s zero outer h u = omega (arith, zero-mul (product (highs s 0 (s .dims - 0))), zero-mul (product (highsOf s)))
+count-iterations s (suc n) outer h u =
     let z : 0 + n ≡ n = omega arith in
-    let f : ℕ → ℕ = λ i. 1 + begun (sizeAt s) 0 n (i ∷ outer) in
+    let f : ℕ → ℕ = λ i. 1 + iterations (sizeAt s) 0 n (i ∷ outer) in
     let q : ℕ = product (highs s (suc n) (s .dims - suc n)) in
     let p : ℕ = product (highs s n (s .dims - n)) in
     let all : ℕ = product (highsOf s) in
     let each : (i : ℕ) → i < sizeAt s n outer → f i * p ≤ suc n * all = λ i r.
-    omega (arith, count-begun s n (i ∷ outer) (omega arith) (under-more s n h outer u i r), outer-most s n (omega arith), add-mul 1 (begun (sizeAt s) 0 n (i ∷ outer)) p, one-mul p, suc-mul n all) in
-    subst (λ k. total f 0 (sizeAt s k outer) * q ≤ suc n * all) (sym z) (one-more s n (suc n * all) outer f h u each)
+    omega (arith, count-iterations s n (i ∷ outer) (omega arith) (under-more s n h outer u i r), outer-most s n (omega arith), add-mul 1 (iterations (sizeAt s) 0 n (i ∷ outer)) p, one-mul p, suc-mul n all) in
+    subst (λ k. sum f 0 (sizeAt s k outer) * q ≤ suc n * all) (sym z) (one-more s n (suc n * all) outer f h u each)
 
 -- at most that many iterations begin in each dimension
-pub begun-few : (s : Shape) → begun (sizeAt s) 0 (s .dims) [] ≤ s .dims * product (highsOf s)
-begun-few s =
+pub iterations-few : (s : Shape) → iterations (sizeAt s) 0 (s .dims) [] ≤ s .dims * product (highsOf s)
+iterations-few s =
     let z : s .dims - s .dims ≡ 0 = omega arith in
-    let n : ℕ = begun (sizeAt s) 0 (s .dims) [] in
-    let k : n * product (highs s (s .dims) (s .dims - s .dims)) ≤ s .dims * product (highsOf s) = count-begun s (s .dims) [] (omega arith) (λ k. omega arith) in
+    let n : ℕ = iterations (sizeAt s) 0 (s .dims) [] in
+    let k : n * product (highs s (s .dims) (s .dims - s .dims)) ≤ s .dims * product (highsOf s) = count-iterations s (s .dims) [] (omega arith) (λ k. omega arith) in
     let e : n * product (highs s (s .dims) (s .dims - s .dims)) ≡ n = ap (λ y. n * product (highs s (s .dims) y)) z ∙ ap (λ y. n * y) (no-highs s (s .dims)) ∙ mul-one n in
     omega arith

@@ -15,7 +15,7 @@ use Rattle.engine.specs.Memory.{fetch}
 use Rattle.engine.specs.Lanes.{lane, lanewise}
 use Rattle.engine.specs.Registers.{isOpen, shapeOf, nextChunk, noRegister, reg}
 use Rattle.engine.specs.Calculate.{World, given, results, refusalOf, effect}
-use Rattle.engine.specs.Allowed.{Source, Sink}
+use Rattle.engine.specs.Allowed.{Source, Destination}
 use Rattle.engine.specs.Good.{AllGood}
 use Rattle.engine.specs.CalculationLaws.{Named}
 use Rattle.engine.specs.CalculatesLaws.{calculates-clear}
@@ -38,8 +38,8 @@ module _ (vl : ℕ) (c : Calculation) (w : World) (g : AllGood vl (w .machine)) 
 
   module _ (e : refusalOf vl c w ≡ Nothing) where
     -- the destination is plain or an open store
-    sink : (i : ℕ) → i ≡ c .destination → Sink (at i)
-    sink i p = subst (λ j. Sink (at j)) (sym p) (calculates-clear vl c w .0 e .destination)
+    sink : (i : ℕ) → i ≡ c .destination → Destination (at i)
+    sink i p = subst (λ j. Destination (at j)) (sym p) (calculates-clear vl c w .0 e .destination)
 
     -- a source is plain or an open load
     source : (i : ℕ) → (i ≡ c .first) ⊎ (i ≡ c .second) → Source (at i)
@@ -58,9 +58,9 @@ module _ (vl : ℕ) (c : Calculation) (w : World) (g : AllGood vl (w .machine)) 
         b : i < length (w .machine .registers)
         b = inside i h
 
-        to : i ≡ c .destination → Sink (at i) → Becomes vl c w (results vl c w) i (movedIn vl c w i) (reg (effect vl c w .machine) i)
-        to p (Sink.plain s) = let t = went-plain vl c w i b p s in Becomes.plain p s (t .0) (t .1)
-        to p (Sink.store o k) =
+        to : i ≡ c .destination → Destination (at i) → Becomes vl c w (results vl c w) i (movedIn vl c w i) (reg (effect vl c w .machine) i)
+        to p (Destination.plain s) = let t = went-plain vl c w i b p s in Becomes.plain p s (t .0) (t .1)
+        to p (Destination.store o k) =
             let t = went-store vl c w i b p (sink i p) o (g .good i h) (roomy i p o) in
             Becomes.store p o (t .0) (t .1)
 
@@ -116,9 +116,9 @@ module _ (vl : ℕ) (c : Calculation) (w : World) (g : AllGood vl (w .machine)) 
     stores : Stores c w (results vl c w) (movedIn vl c w (c .destination)) (effect vl c w .memory)
     stores = go (sink (c .destination) refl)
       where
-        go : Sink (at (c .destination)) → Stores c w (results vl c w) (movedIn vl c w (c .destination)) (effect vl c w .memory)
-        go (Sink.plain s) = Stores.nothing s (memory-kept vl c w s)
-        go (Sink.store o k) = Stores.lanes o (memory-stored vl c w (sink (c .destination) refl) o)
+        go : Destination (at (c .destination)) → Stores c w (results vl c w) (movedIn vl c w (c .destination)) (effect vl c w .memory)
+        go (Destination.plain s) = Stores.nothing s (memory-kept vl c w s)
+        go (Destination.store o k) = Stores.lanes o (memory-stored vl c w (sink (c .destination) refl) o)
 
     -- and memory that is so is that
     stores-one : (memory : List ℕ) → Stores c w (results vl c w) (movedIn vl c w (c .destination)) memory → memory ≡ effect vl c w .memory

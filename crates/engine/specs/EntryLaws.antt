@@ -1,7 +1,7 @@
 -- The history of calculations that are not refused.
 --
 --   named-turns                         the calculations of a body in turn name registers
---   entriesOf, calculationsOf           the history of calculations; the calculations of a history
+--   entriesOf, entryCalculations           the history of calculations; the calculations of a history
 --   entries-calculations, entries-length, entries-world   its calculations, their number, the world after some
 --   entries-follow                      each goes on where the one before it ended
 --   Followed, followed                  and a history is that of its calculations
@@ -53,11 +53,11 @@ entriesOf vl w (c ∷ cs) =
     record { calculation = c; taken = movedIn vl (c .calculation) w; after = effect vl (c .calculation) w } ∷ entriesOf vl (effect vl (c .calculation) w) cs
 
 -- the calculations of a history
-abbrev pub calculationsOf : List Entry → List Placed
-calculationsOf es = map (λ (e : Entry). e .calculation) es
+abbrev pub entryCalculations : List Entry → List Placed
+entryCalculations es = map (λ (e : Entry). e .calculation) es
 
 -- its calculations
-pub entries-calculations : (vl : ℕ) (w : World) (cs : List Placed) → calculationsOf (entriesOf vl w cs) ≡ cs
+pub entries-calculations : (vl : ℕ) (w : World) (cs : List Placed) → entryCalculations (entriesOf vl w cs) ≡ cs
 unfolding entriesOf
 entries-calculations vl w [] = refl
 entries-calculations vl w (c ∷ cs) = ap (λ l. c ∷ l) (entries-calculations vl (effect vl (c .calculation) w) cs)
@@ -75,10 +75,10 @@ entries-world vl w (c ∷ cs) (suc k) = entries-world vl (effect vl (c .calculat
 
 -- the calculations of a history are not refused, and its worlds and what it moved are theirs
 pub record Followed (vl : ℕ) (w : World) (es : List Entry) (v : World) : Type 0 where
-  pub completed : Completed vl w (calculationsOf es)
-  pub world : v ≡ afterAll vl w (calculationsOf es)
-  pub worlds : (k : ℕ) → worldAt w es k ≡ afterAll vl w (take k (calculationsOf es))
-  pub moved : (i : ℕ) → i < 32 → (k : ℕ) → movedOf (take k es) i ≡ movedOver vl w (take k (calculationsOf es)) i
+  pub completed : Completed vl w (entryCalculations es)
+  pub world : v ≡ afterAll vl w (entryCalculations es)
+  pub worlds : (k : ℕ) → worldAt w es k ≡ afterAll vl w (take k (entryCalculations es))
+  pub moved : (i : ℕ) → i < 32 → (k : ℕ) → movedOf (take k es) i ≡ movedOver vl w (take k (entryCalculations es)) i
 
 module _ (vl : ℕ) (l : 8 ≤ vl) where
   -- each goes on where the one before it ended
@@ -92,7 +92,7 @@ module _ (vl : ℕ) (l : 8 ≤ vl) where
   )
 
   -- and the reverse
-  pub followed : (w : World) (es : List Entry) (v : World) → AllNamed (calculationsOf es) → AllGood vl (w .machine) → Follow vl w es v → Followed vl w es v
+  pub followed : (w : World) (es : List Entry) (v : World) → AllNamed (entryCalculations es) → AllGood vl (w .machine) → Follow vl w es v → Followed vl w es v
   unfolding Follow worldAt afterAll movedOf movedOver Completed AllNamed
   followed w [] v nm g f = record { completed = tt; world = sym f; worlds = none; moved = nothing }
     where
@@ -120,10 +120,10 @@ module _ (vl : ℕ) (l : 8 ≤ vl) where
           q : Followed vl (effect vl c w) es v
           q = ih (effect-good vl c w g (nm .0) k) (subst (λ x. Follow vl x es v) d (f .1))
 
-          worlds : (k : ℕ) → worldAt w (e ∷ es) k ≡ afterAll vl w (take k (e .calculation ∷ calculationsOf es))
+          worlds : (k : ℕ) → worldAt w (e ∷ es) k ≡ afterAll vl w (take k (e .calculation ∷ entryCalculations es))
           worlds zero = refl
           worlds (suc k) = ap (λ x. worldAt x es k) d ∙ q .worlds k
 
-          moved : (i : ℕ) → i < 32 → (k : ℕ) → movedOf (take k (e ∷ es)) i ≡ movedOver vl w (take k (e .calculation ∷ calculationsOf es)) i
+          moved : (i : ℕ) → i < 32 → (k : ℕ) → movedOf (take k (e ∷ es)) i ≡ movedOver vl w (take k (e .calculation ∷ entryCalculations es)) i
           moved i b zero = refl
           moved i b (suc k) = ap₂ _++_ (did-taken vl c w g (nm .0) l (e .after) (e .taken) (f .0) i b) (q .moved i b k)

@@ -26,7 +26,7 @@ use Rattle.codec.specs.declared.number.Number.the-variants.{Value, NoNumber}
 use Rattle.codec.specs.declared.refusal.Refusal.{Refusal}
 use Rattle.codec.specs.declared.refusal.Refusal.the-variants.{BadNumber, OutOfRange}
 use Rattle.engine.specs.AllowedLaws.{fails, leb-plain, and-plain}
-use Rattle.engine.specs.Promise1.{NumberAt, NoNumberAt, Range, Holds, Fault, AtFault}
+use Rattle.engine.specs.Promise1.{NumberAt, NoNumberAt, Range, Holds, NumberFault, NumbersFault}
 
 -- ---- numbers
 
@@ -95,13 +95,13 @@ module _ {A : Type 0} (refused : Refusal → A) (s : List ℕ) (p : areBytes s) 
   next-there at n to before f rest h k = rw (number-there s at n to h, holds-plain f before n .1 k)
 
   -- a fault is refused
-  pub reads-fault : (x : Refusal) (at : ℕ) (before : List ℕ) (fs : List Range) → AtFault s x at before fs → reads refused s at before fs end ≡ refused x
-  unfolding reads AtFault
+  pub reads-fault : (x : Refusal) (at : ℕ) (before : List ℕ) (fs : List Range) → NumbersFault s x at before fs → reads refused s at before fs end ≡ refused x
+  unfolding reads NumbersFault
   reads-fault x at before [] h = absurd h
-  reads-fault x at before (f ∷ fs) (Fault.unread e h) = rw (no-number s at p .1 h, is-numbered x 1 e)
-  reads-fault x at before (f ∷ fs) (Fault.beyond n to e h k) =
+  reads-fault x at before (f ∷ fs) (NumberFault.unread e h) = rw (no-number s at p .1 h, is-numbered x 1 e)
+  reads-fault x at before (f ∷ fs) (NumberFault.beyond n to e h k) =
       rw (number-there s at n to h, fails (holds f before n) (holds-plain f before n) k, is-numbered x 2 e)
-  reads-fault x at before (f ∷ fs) (Fault.later n to h k l) =
+  reads-fault x at before (f ∷ fs) (NumberFault.later n to h k l) =
       next-there at n to before f (λ n to. reads refused s to (n ∷ before) fs end) h k ∙ reads-fault x to (n ∷ before) fs l
 
   -- where all are there, what follows them is the answer
@@ -115,32 +115,32 @@ module _ {A : Type 0} (refused : Refusal → A) (s : List ℕ) (p : areBytes s) 
 
 -- there is a fault, or all are there
 pub reads-either : (s : List ℕ) (at : ℕ) (before : List ℕ) (fs : List Range) → areBytes s
-    → ((x : Refusal) × AtFault s x at before fs) ⊎ ((all : List ℕ) × (to : ℕ) × Through s at before fs all to)
-unfolding AtFault Through
+    → ((x : Refusal) × NumbersFault s x at before fs) ⊎ ((all : List ℕ) × (to : ℕ) × Through s at before fs all to)
+unfolding NumbersFault Through
 reads-either s at before [] p = inr (before, at, (refl, refl))
 reads-either s at before (f ∷ fs) p = go (numberAt s at) refl (λ n to. reads-either s to (n ∷ before) fs p)
   where
     Rest : ℕ → ℕ → Type 0
-    Rest n to = ((x : Refusal) × AtFault s x to (n ∷ before) fs) ⊎ ((all : List ℕ) × (end : ℕ) × Through s to (n ∷ before) fs all end)
+    Rest n to = ((x : Refusal) × NumbersFault s x to (n ∷ before) fs) ⊎ ((all : List ℕ) × (end : ℕ) × Through s to (n ∷ before) fs all end)
 
     held : (n to : ℕ) → NumberAt s at n to → (b : Bool) → holds f before n ≡ b → Rest n to
-        → ((x : Refusal) × AtFault s x at before (f ∷ fs)) ⊎ ((all : List ℕ) × (to : ℕ) × Through s at before (f ∷ fs) all to)
-    held n to h false e r = inl (OutOfRange, Fault.beyond n to refl h (λ k. never (sym e ∙ holds-plain f before n .1 k)))
-    held n to h true e (inl r) = inl (r .0, Fault.later n to h (holds-plain f before n .0 e) (r .1))
+        → ((x : Refusal) × NumbersFault s x at before (f ∷ fs)) ⊎ ((all : List ℕ) × (to : ℕ) × Through s at before (f ∷ fs) all to)
+    held n to h false e r = inl (OutOfRange, NumberFault.beyond n to refl h (λ k. never (sym e ∙ holds-plain f before n .1 k)))
+    held n to h true e (inl r) = inl (r .0, NumberFault.later n to h (holds-plain f before n .0 e) (r .1))
     held n to h true e (inr r) = inr (r .0, r .1, (n, to, h, holds-plain f before n .0 e, r .2))
 
     go : (r : Number) → numberAt s at ≡ r → ((n to : ℕ) → Rest n to)
-        → ((x : Refusal) × AtFault s x at before (f ∷ fs)) ⊎ ((all : List ℕ) × (to : ℕ) × Through s at before (f ∷ fs) all to)
-    go NoNumber e ih = inl (BadNumber, Fault.unread refl (no-number s at p .0 e))
+        → ((x : Refusal) × NumbersFault s x at before (f ∷ fs)) ⊎ ((all : List ℕ) × (to : ℕ) × Through s at before (f ∷ fs) all to)
+    go NoNumber e ih = inl (BadNumber, NumberFault.unread refl (no-number s at p .0 e))
     go (Value n c) e ih = held n (c .at) (there-number s at n c p e) (holds f before n) refl (ih n (c .at))
 
 -- an answer is the refusal of a fault, or what follows them
 pub reads-gives : {A : Type 0} (refused : Refusal → A) (s : List ℕ) (p : areBytes s) (end : List ℕ → ℕ → A) (a : A) (at : ℕ) (before : List ℕ) (fs : List Range)
     → reads refused s at before fs end ≡ a
-    → ((x : Refusal) × AtFault s x at before fs × (refused x ≡ a)) ⊎ ((all : List ℕ) × (to : ℕ) × Through s at before fs all to × (end all to ≡ a))
+    → ((x : Refusal) × NumbersFault s x at before fs × (refused x ≡ a)) ⊎ ((all : List ℕ) × (to : ℕ) × Through s at before fs all to × (end all to ≡ a))
 reads-gives refused s p end a at before fs e = go (reads-either s at before fs p)
   where
-    go : ((x : Refusal) × AtFault s x at before fs) ⊎ ((all : List ℕ) × (to : ℕ) × Through s at before fs all to)
-        → ((x : Refusal) × AtFault s x at before fs × (refused x ≡ a)) ⊎ ((all : List ℕ) × (to : ℕ) × Through s at before fs all to × (end all to ≡ a))
+    go : ((x : Refusal) × NumbersFault s x at before fs) ⊎ ((all : List ℕ) × (to : ℕ) × Through s at before fs all to)
+        → ((x : Refusal) × NumbersFault s x at before fs × (refused x ≡ a)) ⊎ ((all : List ℕ) × (to : ℕ) × Through s at before fs all to × (end all to ≡ a))
     go (inl (x, h)) = inl (x, h, sym (reads-fault refused s p end x at before fs h) ∙ e)
     go (inr (all, to, h)) = inr (all, to, h, sym (reads-through refused s p end at before fs all to h) ∙ e)

@@ -1,6 +1,6 @@
 -- What the operations of a sheet gave for a register is what the register has.
 --
---   Bears, elementsOf, Inside   a register with a stream's descriptors; its elements; a stream, some of whose elements have moved
+--   Bears, elementsOf, InRegister   a register with a stream's descriptors; its elements; a stream, some of whose elements have moved
 --   Has, fresh-has              a register has what was given; a fresh one, nothing
 --   filled-more, plusDimension, dimensioned-given, plusModifier, modified-given   one dimension, one modifier more
 --   own-has, other-given, after-has   after an operation: its own register; every other; any
@@ -28,7 +28,7 @@ use Rattle.engine.specs.Configure.{patterned, dimensioned, owned, modifi
 use Rattle.engine.specs.GoodLaws.{put-same, put-other}
 use Rattle.engine.specs.Allowed.{Accepts}
 use Rattle.engine.specs.Given.{Stream, filled, patternOf, Given, none, going, ended, withDimension, withModifier, withEnd, givenBy, givenFrom, givenFor}
-use Rattle.engine.specs.Promise1.{after, Turns, Before}
+use Rattle.engine.specs.Promise1.{after, Turns, DoneBefore}
 use Rattle.engine.specs.declared.stream.Modifier.{Modifier}
 use Rattle.engine.specs.declared.stream.Pattern.{Pattern}
 use Rattle.engine.specs.declared.register.State.{State}
@@ -48,7 +48,7 @@ abbrev pub elementsOf : Stream → List (List ℕ)
 elementsOf t = elements (patternOf t .shape)
 
 -- the stream t in a register, when the elements soFar have moved
-pub record Inside (t : Stream) (soFar : List (List ℕ)) (r : Register) : Type 0 where
+pub record InRegister (t : Stream) (soFar : List (List ℕ)) (r : Register) : Type 0 where
   pub bears : Bears t r
   pub moved : r .moved ≡ length soFar
   pub each-once : soFar ++ drop (length soFar) (elementsOf t) ≡ elementsOf t
@@ -59,7 +59,7 @@ pub record Inside (t : Stream) (soFar : List (List ℕ)) (r : Register) : Type 0
 abbrev pub Has : Given → Register → Type 0
 Has none r = r .state ≡ Plain
 Has (going t) r = Bears t r × (r .state ≡ Configuring) × (r .moved ≡ 0)
-Has (ended t) r = Inside t [] r
+Has (ended t) r = InRegister t [] r
 
 -- a fresh machine has nothing
 pub fresh-has : (i : ℕ) → i < 32 → Has none (reg freshMachine i)
@@ -166,7 +166,7 @@ modifier-has m t r b h =
     record { pattern = ap (modified m) (b .pattern) ∙ modified-given m t n; kind = b .kind; width = b .width; most = b .most }
 
 -- after end: nothing has moved
-end-has : (t : Stream) (r : Register) → Bears t r → r .moved ≡ 0 → Inside t [] (movedBy 0 r)
+end-has : (t : Stream) (r : Register) → Bears t r → r .moved ≡ 0 → InRegister t [] (movedBy 0 r)
 unfolding movedBy
 end-has t r b e =
     let p : r .pattern ≡ patternOf t = b .pattern in
@@ -234,5 +234,5 @@ turns-have s (o ∷ os) at to m n i g e h k =
     (after-has o m i g h (e .2) k)
 
 -- each of the 32 registers has what the operations before a place gave for it
-pub before-has : (s : List ℕ) (os : List Operation) (at : ℕ) (m : Machine) (i : ℕ) → Before s os at m → i < 32 → Has (givenFor i os) (reg m i)
+pub before-has : (s : List ℕ) (os : List Operation) (at : ℕ) (m : Machine) (i : ℕ) → DoneBefore s os at m → i < 32 → Has (givenFor i os) (reg m i)
 before-has s os at m i b h = turns-have s os 0 at freshMachine m i none b h (fresh-has i h)

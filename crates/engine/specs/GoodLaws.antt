@@ -1,7 +1,6 @@
 -- Checks that gave no refusal, and registers that stay good.
 --
 --   next, more, passed, clear          a list of checks that gives none
---   First, first-because, because-first   a list of checks that gives a refusal
 --   all-same, fresh-good, fresh-machine-good   what a sheet starts with
 --   after-configuring                  an ended stream is not being configured
 --   dimension-passed, modifier-passed, end-accepted, end-configuring, target-most   what an operation that is not refused finds
@@ -13,7 +12,7 @@
 use Prim.Native.Nat.{ℕ, zero, suc, _+_, _^_, _≤_, _<_}
 use mathlib.Core.Path.{_≡_, refl, sym, _∙_, ap, subst}
 use mathlib.Core.Logic.{_≢_, ⊎-elim}
-use mathlib.Core.List.{List, [], _∷_, _++_, List·Memᴰ, List·Memᴰ·head, List·Memᴰ·tail, List·Memᴰ·cases-cons, List·Memᴰ·not-nil}
+use mathlib.Core.List.{List, [], _∷_, List·Memᴰ, List·Memᴰ·head, List·Memᴰ·tail, List·Memᴰ·cases-cons, List·Memᴰ·not-nil}
 use mathlib.Core.Bool.{Bool, true, false, cond}
 use native.Mathlib.Omega.{arith}
 use lib.ListN.{length, getD, set, replicate, length-set, getD-replicate}
@@ -83,39 +82,6 @@ pub clear : (cs : List Check) → ((c : Check) → List·Memᴰ c cs → c .appl
 unfolding firstOf
 clear [] h = refl
 clear (b ∷ cs) h = more (b .refusal) (b .applies) cs (h b (List·Memᴰ·head refl)) (clear cs (λ c m. h c (List·Memᴰ·tail m)))
-
--- a check with this refusal applies, and none before it does
-pub record First (cs : List Check) (x : Refusal) : Type 0 where
-  pub before : List Check
-  pub rest : List Check
-  pub split : cs ≡ before ++ (x if true ∷ rest)
-  pub passed : firstOf before ≡ Nothing
-
--- the first check that applies is the one in front, or the first of the others
-first-step : (y : Refusal) (b : Bool) (cs : List Check) (x : Refusal) → firstOf (y if b ∷ cs) ≡ Because x → (firstOf cs ≡ Because x → First cs x) → First (y if b ∷ cs) x
-unfolding firstOf
-first-step y true cs x e h = let z : y ≡ x = cc in record { before = []; rest = cs; split = ap (λ w. w if true ∷ cs) z; passed = refl }
-first-step y false cs x e h =
-    let f : First cs x = h e in
-    record { before = y if false ∷ f .before; rest = f .rest; split = ap (λ l. y if false ∷ l) (f .split); passed = f .passed }
-
--- a list of checks gives a refusal: the first check that applies has it
-pub first-because : (cs : List Check) (x : Refusal) → firstOf cs ≡ Because x → First cs x
-unfolding firstOf
-first-because [] x e = absurd (let z : _≡_ {A = ℕ} 0 1 = cc in omega arith)
-first-because (c ∷ cs) x e = first-step (c .refusal) (c .applies) cs x e (first-because cs x)
-
--- behind checks of which none applies, one that applies gives its refusal
-skip : (before : List Check) (x : Refusal) (rest : List Check) → firstOf before ≡ Nothing → firstOf (before ++ (x if true ∷ rest)) ≡ Because x
-unfolding firstOf
-skip [] x rest e = refl
-skip (c ∷ before) x rest e =
-    let n = next (c .refusal) (c .applies) before e in
-    rw (n .0) (skip before x rest (n .1))
-
--- and the reverse
-pub because-first : (cs : List Check) (x : Refusal) → First cs x → firstOf cs ≡ Because x
-because-first cs x f = ap firstOf (f .split) ∙ skip (f .before) x (f .rest) (f .passed)
 
 -- ---- what a sheet starts with
 

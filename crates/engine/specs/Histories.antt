@@ -5,7 +5,7 @@
 --   Did                      one completed calculation
 --   Entry, Follow            a history: each calculation goes on where the one before it ended
 --   worldAt, movedOf         the world at a moment of it; the elements that a register moved in it
---   inTurn, checksIn, Ran    the history of a run
+--   inTurn, Ran              the history of a run
 use Prim.Native.Nat.{ℕ, zero, suc, _+_, _-_, _*_, _/_, _%_, _≤_, _<_}
 use mathlib.Core.Path.{_≡_}
 use mathlib.Core.Logic.{_⊎_}
@@ -19,18 +19,17 @@ use Rattle.engine.specs.Loops.{elements}
 use Rattle.engine.specs.Memory.{fetch, stored, contents, holding}
 use Rattle.engine.specs.Lanes.{lane, lanewise}
 use Rattle.engine.specs.Registers.{shapeOf, movedTo, reg}
-use Rattle.engine.specs.Calculate.{World, checksOn, given}
+use Rattle.engine.specs.Calculate.{World}
 use Rattle.engine.specs.Run.{Progress}
 use Rattle.engine.specs.Allowed.{Calculates}
-use Rattle.engine.specs.GoodLaws.{First}
-use Rattle.engine.specs.Checks.{Check}
+use Rattle.engine.specs.Reasons.{CalculationRefused}
 use Rattle.engine.specs.declared.stream.Shape.{Shape}
 use Rattle.engine.specs.declared.register.State.the-variants.{Plain, Open, Finished}
 use Rattle.engine.specs.declared.register.Register.{Register}
 use Rattle.engine.specs.declared.run.Placed.{Placed}
 use Rattle.engine.specs.declared.run.Verdict.the-variants.{Done, Refused}
 
--- the element at place n is not of the pass of the coupled dimension that the one before it is of
+-- the element at position n is not of the pass of the coupled dimension that the one before it is of
 pub record PassEnds (s : Shape) (n : ℕ) : Type 0 where
   pub dimension : ℕ
   pub coupled : s .coupling ≡ Coupled dimension
@@ -135,16 +134,6 @@ noPlaced = record { place = 0; calculation = record { action = Copy; destination
 abbrev pub inTurn : List Placed → ℕ → Placed
 inTurn body k = getD body (k % length body) noPlaced
 
--- the checks of a calculation in a world
-abbrev pub checksIn : ℕ → Calculation → World → List Check
-checksIn vl c w =
-    checksOn vl (length (w .memory))
-    (length (given vl (w .memory) (reg (w .machine) (c .first))))
-    (length (given vl (w .memory) (reg (w .machine) (c .second))))
-    (reg (w .machine) (c .first))
-    (reg (w .machine) (c .second))
-    (reg (w .machine) (c .destination))
-
 -- "Run repeats the body while the loop register's stream is open": r is the answer of a run from w
 pub record Ran (vl loop : ℕ) (body : List Placed) (w : World) (r : Progress) : Type 0 where
   pub entries : List Entry
@@ -157,8 +146,8 @@ pub record Ran (vl loop : ℕ) (body : List Placed) (w : World) (r : Progress) :
   pub began : (k : ℕ) → k < length entries → k % length body ≡ 0 → reg (worldAt w entries k .machine) loop .state ≡ Open
   -- done: after whole passes, once the stream is finished
   pub done : r .verdict ≡ Done → (length entries % length body ≡ 0) × (reg (r .world .machine) loop .state ≡ Finished)
-  -- refused: the next calculation in turn is, by the first check that applies, at its place; a pass had begun
+  -- refused: the next calculation in turn is, for the first thing wanted of it that is lacking, at its place; a pass had begun
   pub refused : (x : Refusal) (at : ℕ) → r .verdict ≡ Refused x at
-      → First (checksIn vl (inTurn body (length entries) .calculation) (r .world)) x
+      → CalculationRefused vl (inTurn body (length entries) .calculation) (r .world) x
       × (at ≡ inTurn body (length entries) .place)
       × (length entries % length body ≡ 0 → reg (r .world .machine) loop .state ≡ Open)

@@ -8,18 +8,18 @@ use mathlib.Core.List.{List, [], _∷_}
 use lib.ListN.{length}
 use Rattle.engine.specs.Loops.{elements}
 use Rattle.engine.specs.Chunks.{chunk}
-use Rattle.engine.specs.InStep.{Three, Chunks, chunkDone, chunksDone}
+use Rattle.engine.specs.InStep.{Three, StreamChunks, chunkDone, chunksDone}
 use Rattle.engine.specs.declared.stream.Shape.{Shape}
 
 -- where no chunk is left, all elements have moved
-pub chunks-over : (s : Shape) (lanes n : ℕ) → Chunks s lanes n [] → n ≡ length (elements s)
-unfolding Chunks
+pub chunks-over : (s : Shape) (lanes n : ℕ) → StreamChunks s lanes n [] → n ≡ length (elements s)
+unfolding StreamChunks
 chunks-over s lanes n c = c
 
 -- the next chunk, and those behind it
-pub chunks-next : (s : Shape) (lanes n : ℕ) (vs : List (List ℕ)) (gs : List (List (List ℕ))) → Chunks s lanes n (vs ∷ gs)
-    → (vs ≡ chunk s lanes n) × (1 ≤ length vs) × Chunks s lanes (n + length vs) gs
-unfolding Chunks
+pub chunks-next : (s : Shape) (lanes n : ℕ) (vs : List (List ℕ)) (gs : List (List (List ℕ))) → StreamChunks s lanes n (vs ∷ gs)
+    → (vs ≡ chunk s lanes n) × (1 ≤ length vs) × StreamChunks s lanes (n + length vs) gs
+unfolding StreamChunks
 chunks-next s lanes n vs gs c = c
 
 -- no chunk changes nothing

@@ -5,26 +5,25 @@
 --   Streaming                a register whose stream has moved some elements
 --   InStep                   the three streams at one element
 --   AllInside                every element of all three lies inside memory
---   Chunks                   the chunks of a stream, one after the other
+--   StreamChunks             the chunks of a stream, one after the other
 --   chunkDone, chunksDone    memory after a chunk: all lanes of both sources read, then all stored; after chunks in order
-use Prim.Native.Nat.{ℕ, _+_, _*_, _≤_, _<_}
+use Prim.Native.Nat.{ℕ, _+_, _*_, _≤_}
 use mathlib.Core.Path.{_≡_}
 use mathlib.Core.List.{List, [], _∷_, map}
-use lib.ListN.{length, getD}
+use lib.ListN.{length}
 use Rattle.codec.specs.declared.header.Kind.{Kind}
 use Rattle.codec.specs.declared.header.Kind.the-variants.{Load, Store}
 use Rattle.codec.specs.declared.operation.Action.{Action}
 use Rattle.codec.specs.declared.operation.Calculation.{Calculation}
 use Rattle.engine.specs.Loops.{elements}
 use Rattle.engine.specs.Chunks.{chunk}
-use Rattle.engine.specs.Addresses.{address}
 use Rattle.engine.specs.Memory.{fetch, stored}
 use Rattle.engine.specs.Lanes.{lane, lanewise}
 use Rattle.engine.specs.Registers.{stateAfter, reg}
 use Rattle.engine.specs.Calculate.{World}
 use Rattle.engine.specs.Good.{AllGood}
 use Rattle.engine.specs.CalculationLaws.{Named}
-use Rattle.engine.specs.Allowed.{Lies}
+use Rattle.engine.specs.Allowed.{AllLie}
 use Rattle.engine.specs.declared.stream.Shape.{Shape}
 use Rattle.engine.specs.declared.stream.Pattern.{Pattern}
 use Rattle.engine.specs.declared.register.Register.{Register}
@@ -62,20 +61,16 @@ pub record InStep (vl : ℕ) (b : Three) (c : Calculation) (n : ℕ) (w : World)
   pub second : Streaming (b .second) Load (b .width) n (reg (w .machine) (c .second))
   pub destination : Streaming (b .destination) Store (b .width) n (reg (w .machine) (c .destination))
 
--- the elements vs of a pattern lie inside a memory of len bytes
-abbrev pub AllLie : ℕ → ℕ → Pattern → List (List ℕ) → Type 0
-AllLie len width p vs = (k : ℕ) → k < length vs → Lies len width (address p width (getD vs k []))
-
--- of all three
+-- the elements vs of all three lie inside a memory of len bytes
 pub record AllInside (b : Three) (len : ℕ) (vs : List (List ℕ)) : Type 0 where
   pub first : AllLie len (b .width) (b .first) vs
   pub second : AllLie len (b .width) (b .second) vs
   pub destination : AllLie len (b .width) (b .destination) vs
 
 -- the chunks of a stream from element n on, up to its end
-unfoldable pub Chunks : Shape → ℕ → ℕ → List (List (List ℕ)) → Type 0
-Chunks s lanes n [] = n ≡ length (elements s)
-Chunks s lanes n (vs ∷ gs) = (vs ≡ chunk s lanes n) × (1 ≤ length vs) × Chunks s lanes (n + length vs) gs
+unfoldable pub StreamChunks : Shape → ℕ → ℕ → List (List (List ℕ)) → Type 0
+StreamChunks s lanes n [] = n ≡ length (elements s)
+StreamChunks s lanes n (vs ∷ gs) = (vs ≡ chunk s lanes n) × (1 ≤ length vs) × StreamChunks s lanes (n + length vs) gs
 
 -- memory after one chunk: all lanes of both sources are read, then all are stored
 abbrev pub chunkDone : Three → List ℕ → List (List ℕ) → List ℕ

@@ -18,21 +18,22 @@ use borrow.Author.Tests.{eq-eqb, ne-eqb, lt-leb, le-leb, le-ltb}
 use Rattle.codec.specs.declared.header.Kind.{Kind}
 use Rattle.codec.specs.declared.header.Kind.the-variants.{Load, Store}
 use Rattle.codec.specs.declared.operation.Calculation.{Calculation}
+use Rattle.engine.specs.Configure.{Covers}
 use Rattle.engine.specs.Loops.{sizeAt, elements}
-use Rattle.engine.specs.Chunks.{groupsOf, chunk}
+use Rattle.engine.specs.Chunks.{streamGroups, chunk}
 use Rattle.engine.specs.Addresses.{address, inside}
 use Rattle.engine.specs.Memory.{fetch, holding}
 use Rattle.engine.specs.Lanes.{lane, lanewise}
 use Rattle.engine.specs.Registers.{isConfiguring, isOpen, isFinished, openLoad, openStore, stateAfter, shapeOf, nextChunk, movedBy, toCome, reg}
 use Rattle.engine.specs.Calculate.{World, given, results, allInside, outside, refusalOf, readFrom, writtenTo, memoryAfter, effect}
 use Rattle.engine.specs.Run.{Progress, begun, unlessRefused, pass, counted, repeat, execute}
-use Rattle.engine.specs.ChunkLaws.{Covered, groups-join, chunk-some, chunk-elements}
+use Rattle.engine.specs.ChunkLaws.{groups-join, chunk-some, chunk-elements}
 use Rattle.engine.specs.ComeLaws.{come-open}
 use Rattle.engine.specs.CalculationLaws.{not-refused}
 use Rattle.engine.specs.EffectLaws.{effect-reg, read-open, written-open, results-length, memory-length}
 use Rattle.engine.specs.EffectGood.{effect-good}
-use Rattle.engine.specs.Allowed.{Lies}
-use Rattle.engine.specs.InStep.{Three, OneShape, Streaming, InStep, AllLie, AllInside, Chunks, chunkDone, chunksDone}
+use Rattle.engine.specs.Allowed.{Lies, AllLie}
+use Rattle.engine.specs.InStep.{Three, OneShape, Streaming, InStep, AllInside, StreamChunks, chunkDone, chunksDone}
 use Rattle.engine.specs.declared.check.Why.the-variants.{Nothing}
 use Rattle.engine.specs.declared.stream.Shape.{Shape}
 use Rattle.engine.specs.declared.stream.Pattern.{Pattern}
@@ -271,7 +272,7 @@ module _ (vl : ℕ) (b : Three) (s : Shape) (one : OneShape b s) (c : Calculatio
 -- ---- the run
 
 -- elements of a chunk are elements of the stream
-chunk-inside : (s : Shape) (lanes n len width : ℕ) (p : Pattern) → Covered (s .dims) (s .coupling) → AllLie len width p (elements s)
+chunk-inside : (s : Shape) (lanes n len width : ℕ) (p : Pattern) → Covers (s .dims) (s .coupling) → AllLie len width p (elements s)
     → AllLie len width p (chunk s lanes n)
 chunk-inside s lanes n len width p cov l k h =
     subst (λ v. Lies len width (address p width v)) (sym here) (l (n + k) within)
@@ -291,11 +292,11 @@ chunk-inside s lanes n len width p cov l k h =
 -- what a run over three streams in step leaves
 pub record StepsDone (vl : ℕ) (b : Three) (s : Shape) (n : ℕ) (memory : List ℕ) (r : Progress) : Type 0 where
   pub chunks : List (List (List ℕ))
-  pub are : Chunks s (vl / b .width) n chunks
+  pub are : StreamChunks s (vl / b .width) n chunks
   pub done : r .verdict ≡ Done
   pub memory-after : r .world .memory ≡ chunksDone b memory chunks
 
-module _ (vl : ℕ) (b : Three) (s : Shape) (one : OneShape b s) (cov : Covered (s .dims) (s .coupling)) (lanes : 0 < vl / b .width) (c : Placed) (loop : ℕ)
+module _ (vl : ℕ) (b : Three) (s : Shape) (one : OneShape b s) (cov : Covers (s .dims) (s .coupling)) (lanes : 0 < vl / b .width) (c : Placed) (loop : ℕ)
     (is : (loop ≡ c .calculation .first) ⊎ (loop ≡ c .calculation .second)) where
   -- the three streams are in step at element n
   abbrev Steps : ℕ → World → Type 0
@@ -326,7 +327,7 @@ module _ (vl : ℕ) (b : Three) (s : Shape) (one : OneShape b s) (cov : Covered 
   -- the passes that are left
   steps : (f n : ℕ) (g : Progress) → g .verdict ≡ Done → Steps n (g .world) → n ≤ length (elements s) → length (elements s) ≤ f + n
       → AllInside b (length (g .world .memory)) (elements s) → StepsDone vl b s n (g .world .memory) (repeat vl loop (c ∷ []) f g)
-  unfolding repeat Chunks chunksDone elements
+  unfolding repeat StreamChunks chunksDone elements
   steps zero n g v t m k l = record { chunks = []; are = omega arith; done = v; memory-after = refl }
   steps (suc f) n g v t m k l = go (decLt n (length (elements s))) (steps f)
     where
@@ -349,7 +350,7 @@ module _ (vl : ℕ) (b : Three) (s : Shape) (one : OneShape b s) (cov : Covered 
       go (no p) rest =
           rw (loop-shut n w t (omega arith)) (record { chunks = []; are = omega arith; done = v; memory-after = refl })
       go (yes h) rest =
-          let some : 0 < length u = chunk-some (groupsOf s) (vl / b .width) n lanes (rw (groups-join (sizeAt s) (s .dims) (s .coupling) cov) h) in
+          let some : 0 < length u = chunk-some (streamGroups s) (vl / b .width) n lanes (rw (groups-join (sizeAt s) (s .dims) (s .coupling) cov) h) in
           let most : n + length u ≤ length (elements s) =
           omega (arith, ap length (chunk-elements s (vl / b .width) n cov), length-take (length u) (drop n (elements s)), length-drop n (elements s)) in
           let free : refusalOf vl (c .calculation) w ≡ Nothing =

@@ -1,6 +1,8 @@
 -- What a calculation does to two lanes.
 --
---   raised, lane, lanewise
+--   raised        a lane moved up, so that two's complement order becomes plain order
+--   lane          the operation on two lanes
+--   lanewise      the operation lane by lane
 use Prim.Native.Nat.{ℕ, _+_, _-_, _%_, _^_}
 use mathlib.Core.List.{List, [], _∷_}
 use mathlib.Core.Bool.{cond}
@@ -25,7 +27,7 @@ lane Xor n a b = bitXor a b
 lane Smaller n a b = cond (ltb (raised n b) (raised n a)) b a
 lane Larger n a b = cond (ltb (raised n a) (raised n b)) b a
 
--- lane by lane
+-- an operation on two rows of lanes, lane by lane
 unfoldable pub lanewise : (ℕ → ℕ → ℕ) → List ℕ → List ℕ → List ℕ
 lanewise f [] ys = []
 lanewise f (x ∷ xs) [] = []

@@ -30,6 +30,7 @@ pub mod CountLaws
 pub mod AddressLaws
 pub mod Places
 pub mod Allowed
+pub mod Reasons
 pub mod CheckLaws
 pub mod LaneLaws
 pub mod SignedLaws
@@ -66,6 +67,7 @@ pub mod Offered
 pub mod Promise2
 pub mod AllowedLaws
 pub mod CalculatesLaws
+pub mod ReasonLaws
 pub mod FieldLaws
 pub mod ReadingLaws
 pub mod StandLaws

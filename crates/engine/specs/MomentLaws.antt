@@ -23,7 +23,7 @@ use Rattle.engine.specs.GoodLaws.{more}
 use Rattle.engine.specs.CalculationLaws.{nothing}
 use Rattle.engine.specs.ComeLaws.{IsStream, ended-stream}
 use Rattle.engine.specs.Given.{Stream, patternOf, Flagged, last, differs, AtMoment}
-use Rattle.engine.specs.GivenLaws.{Bears, elementsOf, Inside}
+use Rattle.engine.specs.GivenLaws.{Bears, elementsOf, InRegister}
 use Rattle.engine.specs.declared.check.Told.{Told}
 use Rattle.engine.specs.declared.check.Told.the-variants.{Yes, No}
 use Rattle.engine.specs.declared.stream.Shape.{Shape}
@@ -88,7 +88,7 @@ is-finished : (b : Bool) → isFinished (cond b Finished Open) ≡ b
 is-finished true = refl
 is-finished false = refl
 
-module _ (t : Stream) (soFar : List (List ℕ)) (r : Register) (s : Inside t soFar r) where
+module _ (t : Stream) (soFar : List (List ℕ)) (r : Register) (s : InRegister t soFar r) where
   -- no more elements have moved than there are
   pub inside-most : length soFar ≤ length (elementsOf t)
   inside-most = omega (arith, ap length (s .each-once), length-append soFar (drop (length soFar) (elementsOf t)))
@@ -124,7 +124,7 @@ module _ (t : Stream) (soFar : List (List ℕ)) (r : Register) (s : Inside t soF
   finished e = state-by true (le-leb (length (elementsOf t)) (length soFar) (omega (arith, ap length e, length-drop (length soFar) (elementsOf t))))
 
 -- a stream in a register, some of whose elements have moved, at that moment
-pub inside-moment : (t : Stream) (soFar : List (List ℕ)) (m : Machine) (i : ℕ) → i < 32 → Inside t soFar (reg m i) → AtMoment t soFar m i
+pub inside-moment : (t : Stream) (soFar : List (List ℕ)) (m : Machine) (i : ℕ) → i < 32 → InRegister t soFar (reg m i) → AtMoment t soFar m i
 inside-moment t soFar m i h s =
     let r : Register = reg m i in
     let b : Bears t r = s .bears in

@@ -27,7 +27,7 @@ use Rattle.engine.specs.CalculatesLaws.{calculates-clear}
 use Rattle.engine.specs.DidLaws.{did-one, did-taken}
 use Rattle.engine.specs.Histories.{Did, Entry, Follow, worldAt, movedOf}
 use Rattle.engine.specs.Given.{Stream, patternOf}
-use Rattle.engine.specs.GivenLaws.{Bears, elementsOf, Inside}
+use Rattle.engine.specs.GivenLaws.{Bears, elementsOf, InRegister}
 use Rattle.engine.specs.MomentLaws.{inside-stream}
 use Rattle.engine.specs.declared.check.Why.the-variants.{Nothing}
 use Rattle.engine.specs.declared.register.Register.{Register}
@@ -47,8 +47,8 @@ next-once soFar vs all n k e once =
     ∙ once
 
 -- the next n elements have moved; the register's lanes may be others
-inside-on : (t : Stream) (soFar vs : List (List ℕ)) (n : ℕ) (r q : Register) → Inside t soFar r → Bears t q → q .moved ≡ r .moved → length vs ≡ n
-    → vs ≡ take n (drop (r .moved) (elements (shapeOf r))) → Inside t (soFar ++ vs) (movedBy n q)
+inside-on : (t : Stream) (soFar vs : List (List ℕ)) (n : ℕ) (r q : Register) → InRegister t soFar r → Bears t q → q .moved ≡ r .moved → length vs ≡ n
+    → vs ≡ take n (drop (r .moved) (elements (shapeOf r))) → InRegister t (soFar ++ vs) (movedBy n q)
 unfolding movedBy
 inside-on t soFar vs n r q s b m k e =
     let z : q .moved + n ≡ length (soFar ++ vs) = omega (arith, s .moved, length-append soFar vs) in
@@ -63,13 +63,13 @@ inside-on t soFar vs n r q s b m k e =
 
 -- a stream goes on so by a calculation that is not refused
 pub inside-goes : (vl : ℕ) (c : Calculation) (w : World) (i : ℕ) (t : Stream) (soFar : List (List ℕ)) → i < length (w .machine .registers)
-    → refusalOf vl c w ≡ Nothing → Good vl (reg (w .machine) i) → Inside t soFar (reg (w .machine) i)
-    → Inside t (soFar ++ movedIn vl c w i) (reg (effect vl c w .machine) i)
+    → refusalOf vl c w ≡ Nothing → Good vl (reg (w .machine) i) → InRegister t soFar (reg (w .machine) i)
+    → InRegister t (soFar ++ movedIn vl c w i) (reg (effect vl c w .machine) i)
 unfolding holding
 inside-goes vl c w i t soFar h e g s =
-    goes vl c w i (λ q vs. Inside t (soFar ++ vs) q) h e
+    goes vl c w i (λ q vs. InRegister t (soFar ++ vs) q) h e
     (record {
-      idle = subst (λ l. Inside t l r) (sym (append-nil soFar)) s;
+      idle = subst (λ l. InRegister t l r) (sym (append-nil soFar)) s;
       kept = λ o f. never (sym (rw (o, f)) ∙ inside-stream t soFar r s);
       loaded = λ o. inside-on t soFar (nextChunk vl r) (length (nextChunk vl r)) r _ s (bears (s .bears)) refl refl (front o);
       stored =
@@ -96,24 +96,24 @@ world-last vl (e ∷ es) w v f = world-last vl es (e .after) v (f .1)
 
 -- a stream goes on by a completed calculation, which leaves all registers good
 pub did-inside : (vl : ℕ) (c : Calculation) (w v : World) (taken : ℕ → List (List ℕ)) (i : ℕ) (t : Stream) (soFar : List (List ℕ)) → 8 ≤ vl
-    → AllGood vl (w .machine) → Named c → Did vl c w v taken → i < 32 → Inside t soFar (reg (w .machine) i)
-    → AllGood vl (v .machine) × Inside t (soFar ++ taken i) (reg (v .machine) i)
+    → AllGood vl (w .machine) → Named c → Did vl c w v taken → i < 32 → InRegister t soFar (reg (w .machine) i)
+    → AllGood vl (v .machine) × InRegister t (soFar ++ taken i) (reg (v .machine) i)
 did-inside vl c w v taken i t soFar l g nm d h s =
     let e : refusalOf vl c w ≡ Nothing = calculates-clear vl c w .1 (d .calculates) in
-    let x : AllGood vl (effect vl c w .machine) × Inside t (soFar ++ taken i) (reg (effect vl c w .machine) i) = (
+    let x : AllGood vl (effect vl c w .machine) × InRegister t (soFar ++ taken i) (reg (effect vl c w .machine) i) = (
       effect-good vl c w g nm e,
-      subst (λ vs. Inside t (soFar ++ vs) (reg (effect vl c w .machine) i)) (sym (did-taken vl c w g nm l v taken d i h)) (inside-goes vl c w i t soFar (omega (arith, g .all)) e (g .good i h) s),
+      subst (λ vs. InRegister t (soFar ++ vs) (reg (effect vl c w .machine) i)) (sym (did-taken vl c w g nm l v taken d i h)) (inside-goes vl c w i t soFar (omega (arith, g .all)) e (g .good i h) s),
     ) in
-    subst (λ u. AllGood vl (u .machine) × Inside t (soFar ++ taken i) (reg (u .machine) i)) (sym (did-one vl c w g nm l v taken d)) x
+    subst (λ u. AllGood vl (u .machine) × InRegister t (soFar ++ taken i) (reg (u .machine) i)) (sym (did-one vl c w g nm l v taken d)) x
 
 -- at every moment of a history
 pub follow-inside : (vl : ℕ) (es : List Entry) (w v : World) (i : ℕ) (t : Stream) (soFar : List (List ℕ)) (k : ℕ) → 8 ≤ vl → AllGood vl (w .machine)
-    → AllNamed (map (λ (e : Entry). e .calculation) es) → Follow vl w es v → i < 32 → Inside t soFar (reg (w .machine) i)
-    → Inside t (soFar ++ movedOf (take k es) i) (reg (worldAt w es k .machine) i)
+    → AllNamed (map (λ (e : Entry). e .calculation) es) → Follow vl w es v → i < 32 → InRegister t soFar (reg (w .machine) i)
+    → InRegister t (soFar ++ movedOf (take k es) i) (reg (worldAt w es k .machine) i)
 unfolding Follow worldAt movedOf AllNamed
-follow-inside vl es w v i t soFar zero l g nm f h s = subst (λ vs. Inside t vs (reg (w .machine) i)) (sym (append-nil soFar)) s
-follow-inside vl [] w v i t soFar (suc k) l g nm f h s = subst (λ vs. Inside t vs (reg (w .machine) i)) (sym (append-nil soFar)) s
+follow-inside vl es w v i t soFar zero l g nm f h s = subst (λ vs. InRegister t vs (reg (w .machine) i)) (sym (append-nil soFar)) s
+follow-inside vl [] w v i t soFar (suc k) l g nm f h s = subst (λ vs. InRegister t vs (reg (w .machine) i)) (sym (append-nil soFar)) s
 follow-inside vl (e ∷ es) w v i t soFar (suc k) l g nm f h s =
     let d = did-inside vl (e .calculation .calculation) w (e .after) (e .taken) i t soFar l g (nm .0) (f .0) h s in
-    subst (λ vs. Inside t vs (reg (worldAt (e .after) es k .machine) i)) (append-assoc soFar (e .taken i) (movedOf (take k es) i))
+    subst (λ vs. InRegister t vs (reg (worldAt (e .after) es k .machine) i)) (append-assoc soFar (e .taken i) (movedOf (take k es) i))
     (follow-inside vl es (e .after) v i t (soFar ++ e .taken i) k l (d .0) (nm .1) (f .1) h (d .1))

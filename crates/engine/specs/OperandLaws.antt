@@ -11,7 +11,7 @@ use lib.ListN.{length, take, length-map, length-take}
 use lib.Dec.{ltb}
 use borrow.Author.Tests.{lt-ltb, le-ltb}
 use native.Mathlib.Decide.{decLt}
-use Rattle.engine.specs.Chunks.{chunk, groupsOf}
+use Rattle.engine.specs.Chunks.{chunk, streamGroups}
 use Rattle.engine.specs.ChunkLaws.{take-of-chunk}
 use Rattle.engine.specs.Memory.{fetch, stored, contents, holding}
 use Rattle.engine.specs.Calculate.{given, outside, readFrom, writtenTo, memoryAfter}
@@ -87,7 +87,7 @@ module _ (vl n : ℕ) (d : Register) (o : Operand) (h : Operates d n n o) (l : i
   -- the front of the next chunk that the store takes
   front : isOpen (d .state) ≡ true → take n (nextChunk vl d) ≡ chunk (shapeOf d) n (d .moved)
   unfolding nextChunk
-  front e = take-of-chunk (groupsOf (shapeOf d)) (vl / d .width) (d .moved) n (l e)
+  front e = take-of-chunk (streamGroups (shapeOf d)) (vl / d .width) (d .moved) n (l e)
 
   -- the lanes exceed the store's next chunk
   pub target-count : (o .live && ltb (o .count) n) ≡ (isOpen (d .state) && ltb (length (nextChunk vl d)) n)

@@ -21,7 +21,7 @@ use Rattle.engine.specs.declared.outline.Outline.the-variants.{Unended, 
 abbrev pub addressAt : Pattern → ℕ → ℕ → Bytes
 addressAt p width k = record { 0 = getD (addressesOf p width (elements (p .shape))) k (pos 0) }
 
--- the loops that the descriptors give, counted, and their first and last element
+-- a stream's dimensions and modifiers, how many elements its loops have, and the addresses of the first and the last of them
 unfoldable pub extentOf : Pattern → ℕ → Extent
 extentOf p width = record {
   dims = p .shape .dims;

@@ -1,7 +1,7 @@
 -- Promise 2: each element once. For every stream that a sheet ends, at every moment from its end operation on, until its register is
 -- opened anew: what has moved and what is to come are the loop's elements, in order, each once.
 --
---   Prepared, Streams    streams before the run; streams at every moment of it
+--   Unmoved, Streams     streams before the run; streams at every moment of it
 --   Promise2
 use Prim.Native.Nat.{ℕ, _≤_, _<_}
 use mathlib.Core.Path.{_≡_}
@@ -14,14 +14,14 @@ use Rattle.engine.specs.Sheets.{run}
 use Rattle.engine.specs.Allowed.{Fits}
 use Rattle.engine.specs.Histories.{worldAt, movedOf, Ran}
 use Rattle.engine.specs.Given.{Stream, patternOf, ended, givenFor, AtMoment}
-use Rattle.engine.specs.Promise1.{Before, RunAt, LoopsOn, world}
+use Rattle.engine.specs.Promise1.{DoneBefore, RunAt, LoopsOn, world}
 use Rattle.engine.specs.declared.register.Machine.{Machine}
 use Rattle.engine.specs.declared.run.Placed.{Placed}
 use Rattle.engine.specs.declared.run.Verdict.the-variants.{Done}
 
 -- the streams that the operations os ended, and that were not opened anew, nothing moved yet
-abbrev pub Prepared : List Operation → Machine → Type 0
-Prepared os m = (i : ℕ) → i < 32 → (t : Stream) → givenFor i os ≡ ended t → AtMoment t [] m i
+abbrev pub Unmoved : List Operation → Machine → Type 0
+Unmoved os m = (i : ℕ) → i < 32 → (t : Stream) → givenFor i os ≡ ended t → AtMoment t [] m i
 
 -- the same streams at every moment k of a run: the elements that its first k calculations moved, joined, have moved
 pub record Streams (vl : ℕ) (os : List Operation) (m : Machine) (memory : List ℕ) (loop : ℕ) (cs : List Placed) (r : Progress) : Type 0 where
@@ -36,7 +36,7 @@ pub record Streams (vl : ℕ) (os : List Operation) (m : Machine) (memory : List
 -- promise 2 for a vector length, a sheet and a memory: each element once, at every moment
 pub record Promise2 (vl : ℕ) (s memory : List ℕ) : Type 0 where
   -- while the sheet configures
-  pub prepared : (os : List Operation) (at : ℕ) (m : Machine) → Before s os at m → Prepared os m
+  pub prepared : (os : List Operation) (at : ℕ) (m : Machine) → DoneBefore s os at m → Unmoved os m
   -- while it runs
-  pub runs : Fits vl (length memory) → (os : List Operation) (at : ℕ) (m : Machine) (loop : ℕ) (cs : List Placed) → Before s os at m
+  pub runs : Fits vl (length memory) → (os : List Operation) (at : ℕ) (m : Machine) (loop : ℕ) (cs : List Placed) → DoneBefore s os at m
       → RunAt s at loop cs (length s) → LoopsOn loop cs m → Streams vl os m memory loop cs (run vl s memory)

@@ -1,35 +1,26 @@
 -- The history of a run: execute has one, and one answer at most has one.
 --
---   refused-first             a calculation is refused by the first check that applies
 --   turned-ran                a run of its calculations in turn has a history
 --   ran-named, ran-followed   one that has a history: its calculations name registers; its worlds and what it moved are the engine's
 --   ran-turned                it is a run of its calculations in turn
 --   execute-ran, ran-one      execute has a history; two answers that have one are the same
 use Prim.Native.Nat.{ℕ, _/_, _%_, _≤_, _<_}
 use mathlib.Core.Path.{_≡_, sym, _∙_, ap, subst}
-use mathlib.Core.Logic.{_↔_}
 use mathlib.Core.List.{List}
 use native.Mathlib.Omega.{arith}
 use lib.ListN.{length, getD, length-map}
-use Rattle.codec.specs.declared.operation.Calculation.{Calculation}
-use Rattle.codec.specs.declared.refusal.Refusal.{Refusal}
 use Rattle.engine.specs.Registers.{reg}
 use Rattle.engine.specs.Calculate.{World, refusalOf}
 use Rattle.engine.specs.Run.{Progress, begun, execute}
-use Rattle.engine.specs.GoodLaws.{First, first-because, because-first}
 use Rattle.engine.specs.HistoryLaws.{AllNamed}
 use Rattle.engine.specs.EndLaws.{Running}
-use Rattle.engine.specs.Histories.{Entry, Follow, noPlaced, inTurn, checksIn, Ran}
+use Rattle.engine.specs.Histories.{Entry, Follow, noPlaced, inTurn, Ran}
+use Rattle.engine.specs.Reasons.{CalculationRefused}
+use Rattle.engine.specs.ReasonLaws.{calculation-refused}
 use Rattle.engine.specs.TurnLaws.{Turned, turned-one}
 use Rattle.engine.specs.RoundLaws.{execute-turned}
-use Rattle.engine.specs.EntryLaws.{named-turns, entriesOf, calculationsOf, entries-calculations, entries-length, entries-world, entries-follow, Followed, followed}
-use Rattle.engine.specs.declared.check.Why.the-variants.{Because}
+use Rattle.engine.specs.EntryLaws.{named-turns, entriesOf, entryCalculations, entries-calculations, entries-length, entries-world, entries-follow, Followed, followed}
 use Rattle.engine.specs.declared.run.Placed.{Placed}
-
--- a calculation is refused by the first check that applies
-pub refused-first : (vl : ℕ) (c : Calculation) (w : World) (x : Refusal) → (refusalOf vl c w ≡ Because x) ↔ First (checksIn vl c w) x
-unfolding refusalOf
-refused-first vl c w x = (first-because (checksIn vl c w) x, because-first (checksIn vl c w) x)
 
 module _ (vl loop : ℕ) (body : List Placed) (w : World) (u : Running vl loop body (begun w)) (some : 1 ≤ length body) where
   -- a run of its calculations in turn has a history
@@ -47,7 +38,7 @@ module _ (vl loop : ℕ) (body : List Placed) (w : World) (u : Running vl loop b
     refused = λ x at v.
         let d = t .refused x at v in
         let c : inTurn body (length cs) ≡ inTurn body (length es) = ap (inTurn body) (sym n) in (
-          subst (λ p. First (checksIn vl (p .calculation) (r .world)) x) c (refused-first vl _ (r .world) x .0 (d .0)),
+          subst (λ p. CalculationRefused vl (p .calculation) (r .world) x) c (calculation-refused vl _ (r .world) x .0 (d .0)),
           d .1 ∙ ap (λ p. p .place) c,
           λ e. d .2 (ap (λ m. m % length body) (sym n) ∙ e),
         );
@@ -63,13 +54,13 @@ module _ (vl loop : ℕ) (body : List Placed) (w : World) (u : Running vl loop b
       n = entries-length vl w cs
 
   -- the calculations of a run that has a history are those of the body in turn
-  ran-turns : (r : Progress) (h : Ran vl loop body w r) (k : ℕ) → k < length (calculationsOf (h .entries))
-      → getD (calculationsOf (h .entries)) k noPlaced ≡ inTurn body k
+  ran-turns : (r : Progress) (h : Ran vl loop body w r) (k : ℕ) → k < length (entryCalculations (h .entries))
+      → getD (entryCalculations (h .entries)) k noPlaced ≡ inTurn body k
   ran-turns r h k p = h .turns k (omega (arith, length-map (h .entries) (λ (e : Entry). e .calculation)))
 
   -- they name registers
-  pub ran-named : (r : Progress) (h : Ran vl loop body w r) → AllNamed (calculationsOf (h .entries))
-  ran-named r h = named-turns body (calculationsOf (h .entries)) some (u .named) (ran-turns r h)
+  pub ran-named : (r : Progress) (h : Ran vl loop body w r) → AllNamed (entryCalculations (h .entries))
+  ran-named r h = named-turns body (entryCalculations (h .entries)) some (u .named) (ran-turns r h)
 
   -- none of them is refused, and its worlds and what it moved are theirs
   pub ran-followed : (r : Progress) (h : Ran vl loop body w r) → Followed vl w (h .entries) (r .world)
@@ -89,7 +80,7 @@ module _ (vl loop : ℕ) (body : List Placed) (w : World) (u : Running vl loop b
     refused = λ x at v.
         let d = h .refused x at v in
         let c : inTurn body (length cs) ≡ inTurn body (length es) = ap (inTurn body) n in (
-          ap (λ p. refusalOf vl (p .calculation) (r .world)) c ∙ refused-first vl _ (r .world) x .1 (d .0),
+          ap (λ p. refusalOf vl (p .calculation) (r .world)) c ∙ calculation-refused vl _ (r .world) x .1 (d .0),
           d .1 ∙ ap (λ p. p .place) (sym c),
           λ e. d .2 (ap (λ m. m % length body) (sym n) ∙ e),
         );
@@ -99,7 +90,7 @@ module _ (vl loop : ℕ) (body : List Placed) (w : World) (u : Running vl loop b
       es = h .entries
 
       cs : List Placed
-      cs = calculationsOf es
+      cs = entryCalculations es
 
       n : length cs ≡ length es
       n = length-map es (λ (e : Entry). e .calculation)

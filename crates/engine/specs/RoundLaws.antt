@@ -89,7 +89,7 @@ finished-state Finished e = refl
 -- ---- execute
 
 -- a run of so many rounds, and of the first calculations of the body
-module _ (vl loop : ℕ) (body : List Placed) (w : World) (r : Progress) (q : runs.Ran vl loop body (begun w) r) (some : 1 ≤ length body)
+module _ (vl loop : ℕ) (body : List Placed) (w : World) (r : Progress) (q : runs.Repeats vl loop body (begun w) r) (some : 1 ≤ length body)
     (finished : r .verdict ≡ Done → isFinished (reg (r .world .machine) loop .state) ≡ true) where
   -- its calculations
   abbrev all : List Placed

@@ -51,7 +51,8 @@ abbrev pub counted : Progress → Progress
 counted g =
     record { world = g .world; report = record { passes = g .report .passes + 1; calculations = g .report .calculations }; verdict = g .verdict }
 
--- "Run repeats the body while the loop register's stream is open": at most n passes. The bound is never felt: see `finishes`
+-- "Run repeats the body while the loop register's stream is open": at most n passes. The bound is never felt: see
+-- `finishes` of EndLaws
 unfoldable pub repeat : ℕ → ℕ → List Placed → ℕ → Progress → Progress
 repeat vl loop body zero g = g
 repeat vl loop body (suc n) g =

@@ -3,7 +3,7 @@
 --   Stopped                    calculations that stop at their first, which is refused
 --   PassRan, pass-ran          what a pass did
 --   WholePass, pass-whole      a pass that is done did the whole body
---   Ran, repeat-ran            what the passes of a run did
+--   Repeats, repeat-ran            what the passes of a run did
 --   ran-good                   the registers are good after it
 use Prim.Native.Nat.{ℕ, zero, suc, _+_, _<_}
 use mathlib.Core.Path.{_≡_, refl, sym, _∙_, ap, subst}
@@ -115,7 +115,7 @@ pass-whole vl cs g v e =
 
 -- what the passes of a run from g to r did: the body `rounds` times, then its first `rest` calculations, none of them refused; both are
 -- counted; each pass began with the loop register's stream open; all is done, or the next calculation is refused
-pub record Ran (vl loop : ℕ) (body : List Placed) (g r : Progress) : Type 0 where
+pub record Repeats (vl loop : ℕ) (body : List Placed) (g r : Progress) : Type 0 where
   pub rounds : ℕ
   pub rest : ℕ
   pub completed : Completed vl (g .world) (times rounds body ++ take rest body)
@@ -129,7 +129,7 @@ pub record Ran (vl loop : ℕ) (body : List Placed) (g r : Progress) : Type 0 wh
 
 -- a whole pass, then passes that ran: one pass more ran
 one-more : (vl loop : ℕ) (body : List Placed) (g h r : Progress) → isOpen (reg (g .world .machine) loop .state) ≡ true → WholePass vl body g h
-    → Ran vl loop body (counted h) r → Ran vl loop body g r
+    → Repeats vl loop body (counted h) r → Repeats vl loop body g r
 unfolding times afterAll
 one-more vl loop body g h r o p q =
     let t : List Placed = times (q .rounds) body ++ take (q .rest) body in
@@ -158,7 +158,7 @@ one-more vl loop body g h r o p q =
     began (suc k) b = later k (q .began k (omega arith))
 
 -- from g to g itself no pass ran
-none-ran : (vl loop : ℕ) (body : List Placed) (g : Progress) → g .verdict ≡ Done → Ran vl loop body g g
+none-ran : (vl loop : ℕ) (body : List Placed) (g : Progress) → g .verdict ≡ Done → Repeats vl loop body g g
 unfolding times Completed afterAll
 none-ran vl loop body g v = record {
   rounds = 0;
@@ -175,7 +175,7 @@ none-ran vl loop body g v = record {
 
 -- where the first pass is refused, the run did what that pass did
 broken-ran : (vl loop : ℕ) (body : List Placed) (g h : Progress) (x : Refusal) (at : ℕ) → isOpen (reg (g .world .machine) loop .state) ≡ true
-    → h .verdict ≡ Refused x at → PassRan vl body g h → Ran vl loop body g h
+    → h .verdict ≡ Refused x at → PassRan vl body g h → Repeats vl loop body g h
 unfolding times afterAll
 broken-ran vl loop body g h x at o e p = record {
   rounds = 0;
@@ -191,21 +191,21 @@ broken-ran vl loop body g h x at o e p = record {
 }
 
 -- what the passes of a run did
-pub repeat-ran : (vl loop : ℕ) (body : List Placed) (n : ℕ) (g : Progress) → g .verdict ≡ Done → Ran vl loop body g (repeat vl loop body n g)
+pub repeat-ran : (vl loop : ℕ) (body : List Placed) (n : ℕ) (g : Progress) → g .verdict ≡ Done → Repeats vl loop body g (repeat vl loop body n g)
 unfolding repeat
 repeat-ran vl loop body zero g v = none-ran vl loop body g v
 repeat-ran vl loop body (suc n) g v =
     go (isOpen (reg (g .world .machine) loop .state)) refl (pass vl body g .verdict) refl (λ h e. repeat-ran vl loop body n h e)
   where
     go : (b : Bool) → isOpen (reg (g .world .machine) loop .state) ≡ b → (d : Verdict) → pass vl body g .verdict ≡ d
-        → ((h : Progress) → h .verdict ≡ Done → Ran vl loop body h (repeat vl loop body n h))
-        → Ran vl loop body g (cond b (unlessRefused d (pass vl body g) (repeat vl loop body n (counted (pass vl body g)))) g)
+        → ((h : Progress) → h .verdict ≡ Done → Repeats vl loop body h (repeat vl loop body n h))
+        → Repeats vl loop body g (cond b (unlessRefused d (pass vl body g) (repeat vl loop body n (counted (pass vl body g)))) g)
     go false o d e ih = none-ran vl loop body g v
     go true o (Refused x at) e ih = broken-ran vl loop body g (pass vl body g) x at o e (pass-ran vl body g v)
     go true o Done e ih = one-more vl loop body g (pass vl body g) _ o (pass-whole vl body g v e) (ih (counted (pass vl body g)) e)
 
 -- the registers are good after it
-pub ran-good : (vl loop : ℕ) (body : List Placed) (g r : Progress) → AllNamed body → AllGood vl (g .world .machine) → Ran vl loop body g r → AllGood vl (r .world .machine)
+pub ran-good : (vl loop : ℕ) (body : List Placed) (g r : Progress) → AllNamed body → AllGood vl (g .world .machine) → Repeats vl loop body g r → AllGood vl (r .world .machine)
 ran-good vl loop body g r nm a q =
     subst (λ w. AllGood vl (w .machine)) (sym (q .world))
     (after-good vl (times (q .rounds) body ++ take (q .rest) body) (g .world)

@@ -8,11 +8,11 @@ use native.Mathlib.Omega.{arith}
 use lib.ListN.{length}
 use Rattle.codec.specs.declared.header.Coupling.{Coupling}
 use Rattle.codec.specs.declared.header.Coupling.the-variants.{Uncoupled, Coupled}
+use Rattle.engine.specs.Configure.{Covers}
 use Rattle.engine.specs.Loops.{span, loops}
 use Rattle.engine.specs.Members.{Each}
 use Rattle.engine.specs.LoopLaws.{loops-length}
 use Rattle.engine.specs.Chunks.{passes, withElements, groups}
-use Rattle.engine.specs.ChunkLaws.{Covered}
 
 -- spans of the same
 span-same : {A : Type 0} (f g : ℕ → List A) (k n : ℕ) → ((i : ℕ) → f i ≡ g i) → span f k n ≡ span g k n
@@ -35,7 +35,7 @@ module _ (f g : ℕ → List ℕ → ℕ) (D : ℕ) (same : (d : ℕ) (outer : L
   map-same c (v ∷ vs) h = ap₂ _∷_ (loops-same 0 c v (h 0 (omega arith))) (map-same c vs (λ k l. h (suc k) (omega arith)))
 
   -- groups at the same sizes
-  pub groups-same : (k : Coupling) → Covered D k → groups f D k ≡ groups g D k
+  pub groups-same : (k : Coupling) → Covers D k → groups f D k ≡ groups g D k
   unfolding groups passes
   groups-same Uncoupled h = ap (λ l. withElements (l ∷ [])) (loops-same 0 D [] (omega arith))
   groups-same (Coupled c) h =

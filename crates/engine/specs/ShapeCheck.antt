@@ -28,11 +28,12 @@ tooLarge size = ltb 4096 size
 abbrev pub farMoved : Modifier → Bool
 farMoved m = ltb 1048576 (m .displacement)
 
--- "modifier with no dimension yet or target not below its owner"
+-- "target not below its owner", or its owner is none of the dimensions: of a modifier in a shape of so many
 abbrev pub misplacedIn : ℕ → Modifier → Bool
 misplacedIn dims m = leb (m .owner) (m .target) || leb dims (m .owner)
 
--- 6 stands first, so that the others look at entries that are there; all seven sizes are looked at, the unused too
+-- 6, then 2, 7, 8, 9. 6 stands first, so that the others look at entries that are there; all seven sizes are looked at, the unused too;
+-- the coupling is not, since no size and no index depends on it
 abbrev pub shapeChecks : Shape → List Check
 shapeChecks s =
     TooMany if (ltb 7 (s .dims) || ltb 8 (s .mods))

@@ -48,12 +48,12 @@ unfoldable pub bodyAt : List ℕ → ℕ → ℕ → Calculations
 bodyAt s zero at = whole [] at
 bodyAt s (suc n) at = onCalculation (calculationAt s at) at (bodyAt s n)
 
--- "no calculation names it as a source"
+-- whether a calculation of a body names a register as a source
 unfoldable pub names : ℕ → List Placed → Bool
 names loop [] = false
 names loop (c ∷ cs) = eqb loop (c .calculation .first) || eqb loop (c .calculation .second) || names loop cs
 
--- 16: "loop register is no open or finished load stream, or no calculation names it as a source"
+-- what 16 asks of the loop register: it is an open or finished load stream, and a calculation names it as a source
 abbrev pub isLoopRegister : ℕ → List Placed → Machine → Bool
 isLoopRegister loop cs m =
     (isOpen (reg m loop .state) || isFinished (reg m loop .state)) && isLoad (reg m loop .kind) && names loop cs
@@ -94,7 +94,7 @@ onDecoded s at m (decoded.Operation (op.Modifier d) next) rest =
 onDecoded s at m (decoded.Operation (op.End i) next) rest =
     onOperation (whyNot (op.End i) m) at m (rest (next .at)) (configured (op.End i) m)
 
--- the operations from a place on, at most n of them. The bound is never felt, since each takes a byte at least: see `read-on`
+-- the operations from a place on, at most n of them. The bound is never felt, since each takes a byte at least: see `read-on` of SheetLaws
 unfoldable pub operationsFrom : ℕ → List ℕ → ℕ → Machine → Prepared
 operationsFrom zero s at m = record { machine = m; ending = over }
 operationsFrom (suc n) s at m =

@@ -28,23 +28,23 @@ use Rattle.codec.specs.declared.operation.Body.{Body}
 use Rattle.codec.specs.declared.operation.Body.the-variants as body
 use Rattle.codec.specs.declared.refusal.Refusal.{Refusal}
 use Rattle.engine.specs.Registers.{reg}
-use Rattle.engine.specs.Configure.{registerOf, checksFor, whyNot, configured}
+use Rattle.engine.specs.Configure.{registerOf, whyNot, configured}
 use Rattle.engine.specs.Sheets.{whole, broken, before, onCalculation, bodyAt, refused, Prepared, onOperation, onDecoded}
-use Rattle.engine.specs.GoodLaws.{First, because-first}
-use Rattle.engine.specs.CalculationLaws.{nothing}
+use Rattle.engine.specs.Reasons.{OperationRefused}
+use Rattle.engine.specs.ReasonLaws.{operation-refused}
 use Rattle.engine.specs.SheetLaws.{onward, onward-next}
 use Rattle.engine.specs.Allowed.{Accepts}
 use Rattle.engine.specs.AllowedLaws.{accepts-clear}
-use Rattle.engine.specs.Promise1.{Written, after, Turns, Calculated, BodyAt, UnreadCalculation, encodings, bodyBytes}
+use Rattle.engine.specs.Promise1.{OperationAt, after, Turns, CalculationAt, BodyAt, UnreadCalculation, encodings, AllFree, bodyBytes}
 use Rattle.engine.specs.ReadingLaws.{written-read, calculated-read, read-calculated, uncalculated-refused, refused-uncalculated}
-use Rattle.engine.specs.declared.check.Why.the-variants.{Nothing}
+use Rattle.engine.specs.declared.check.Why.the-variants.{Nothing, Because}
 use Rattle.engine.specs.declared.register.Machine.{Machine}
 use Rattle.engine.specs.declared.run.Placed.{Placed}
 
 -- ---- operations
 
 -- an operation takes a byte at least
-pub written-on : (s : List ℕ) (at : ℕ) (o : Operation) (to : ℕ) → areBytes s → Written s at o to → (at < to) × (to ≤ length s)
+pub written-on : (s : List ℕ) (at : ℕ) (o : Operation) (to : ℕ) → areBytes s → OperationAt s at o to → (at < to) × (to ≤ length s)
 written-on s at o to p h = (operation-read s at o (record { at = to }) p (written-read s at o to h) .on, h .stands .within)
 
 -- one that is not refused is done
@@ -62,23 +62,21 @@ decoded-done s at m (op.End i) c rest a = operation-done at (op.End i) m (rest (
 decoded-done s at m (op.Run i n) c rest a = absurd a
 
 -- one that is refused ends the sheet
-operation-stopped : (at : ℕ) (o : Operation) (m : Machine) (f : Machine → Prepared) (x : Refusal) → First (checksFor o (reg m (registerOf o))) x
+operation-stopped : (at : ℕ) (o : Operation) (m : Machine) (f : Machine → Prepared) (x : Refusal) → whyNot o m ≡ Because x
     → onOperation (whyNot o m) at m f (configured o m) ≡ record { machine = m; ending = refused x at }
-unfolding whyNot
-operation-stopped at o m f x h = rw (because-first (checksFor o (reg m (registerOf o))) x h)
+operation-stopped at o m f x e = rw e
 
 -- the same, of any operation
 pub decoded-refused : (s : List ℕ) (at : ℕ) (m : Machine) (o : Operation) (c : Cursor) (rest : ℕ → Machine → Prepared) (x : Refusal)
-    → First (checksFor o (reg m (registerOf o))) x → onDecoded s at m (decoded.Operation o c) rest ≡ record { machine = m; ending = refused x at }
-decoded-refused s at m (op.Open h b) c rest x f = operation-stopped at (op.Open h b) m (rest (c .at)) x f
-decoded-refused s at m (op.Dimension d) c rest x f = operation-stopped at (op.Dimension d) m (rest (c .at)) x f
-decoded-refused s at m (op.Modifier d) c rest x f = operation-stopped at (op.Modifier d) m (rest (c .at)) x f
-decoded-refused s at m (op.End i) c rest x f = operation-stopped at (op.End i) m (rest (c .at)) x f
-decoded-refused s at m (op.Run i n) c rest x f =
-    absurd (let e = sym nothing ∙ because-first [] x f in let z : _≡_ {A = ℕ} 0 1 = cc in omega arith)
+    → OperationRefused o (reg m (registerOf o)) x → onDecoded s at m (decoded.Operation o c) rest ≡ record { machine = m; ending = refused x at }
+decoded-refused s at m (op.Open h b) c rest x f = operation-stopped at (op.Open h b) m (rest (c .at)) x (operation-refused (op.Open h b) m x .1 f)
+decoded-refused s at m (op.Dimension d) c rest x f = operation-stopped at (op.Dimension d) m (rest (c .at)) x (operation-refused (op.Dimension d) m x .1 f)
+decoded-refused s at m (op.Modifier d) c rest x f = operation-stopped at (op.Modifier d) m (rest (c .at)) x (operation-refused (op.Modifier d) m x .1 f)
+decoded-refused s at m (op.End i) c rest x f = operation-stopped at (op.End i) m (rest (c .at)) x (operation-refused (op.End i) m x .1 f)
+decoded-refused s at m (op.Run i n) c rest x f = absurd f
 
 -- the sheet from an operation on
-pub onward-written : (s : List ℕ) (at : ℕ) (m : Machine) (o : Operation) (to : ℕ) → areBytes s → Written s at o to
+pub onward-written : (s : List ℕ) (at : ℕ) (m : Machine) (o : Operation) (to : ℕ) → areBytes s → OperationAt s at o to
     → onward s at m ≡ onDecoded s at m (decoded.Operation o (record { at = to })) (onward s)
 onward-written s at m o to p h =
     let w = written-on s at o to p h in
@@ -100,7 +98,7 @@ turns-append s at m (o ∷ os) place n ps to q (next, w, a, r) t = (next, w, a, 
 
 -- one more
 pub turns-snoc : (s : List ℕ) (at : ℕ) (m : Machine) (os : List Operation) (place : ℕ) (n : Machine) (o : Operation) (to : ℕ) → Turns s at m os place n
-    → Written s place o to → Accepts o (reg n (registerOf o)) → Turns s at m (os ++ (o ∷ [])) to (after o n)
+    → OperationAt s place o to → Accepts o (reg n (registerOf o)) → Turns s at m (os ++ (o ∷ [])) to (after o n)
 unfolding Turns
 turns-snoc s at m os place n o to t w a = turns-append s at m os place n (o ∷ []) to (after o n) t (to, w, a, (refl, refl))
 
@@ -117,7 +115,7 @@ turns-on s at m (o ∷ os) to n p h (next, w, a, t) =
 -- ---- a body
 
 -- a calculation takes a byte at least
-pub calculated-on : (s : List ℕ) (at : ℕ) (c : Calculation) (to : ℕ) → areBytes s → Calculated s at c to → (at < to) × (to ≤ length s)
+pub calculated-on : (s : List ℕ) (at : ℕ) (c : Calculation) (to : ℕ) → areBytes s → CalculationAt s at c to → (at < to) × (to ≤ length s)
 calculated-on s at c to p h = (calculation-read s at c (record { at = to }) p (calculated-read s at c to h) .on, h .stands .within)
 
 -- places go up in a body, too
@@ -130,12 +128,12 @@ body-on s at (c ∷ cs) to p h (next, e, k, b) =
     (omega arith, r .1)
 
 -- one calculation is a body
-pub body-one : (s : List ℕ) (at : ℕ) (c : Calculation) (to : ℕ) → Calculated s at c to → BodyAt s at (record { place = at; calculation = c } ∷ []) to
+pub body-one : (s : List ℕ) (at : ℕ) (c : Calculation) (to : ℕ) → CalculationAt s at c to → BodyAt s at (record { place = at; calculation = c } ∷ []) to
 unfolding BodyAt
 body-one s at c to k = (to, refl, k, refl)
 
 -- one calculation that stands there, and the rest of its body
-body-next : (s : List ℕ) (n at : ℕ) (c : Placed) (next : ℕ) → c .place ≡ at → Calculated s at (c .calculation) next → bodyAt s (suc n) at ≡ before c (bodyAt s n next)
+body-next : (s : List ℕ) (n at : ℕ) (c : Placed) (next : ℕ) → c .place ≡ at → CalculationAt s at (c .calculation) next → bodyAt s (suc n) at ≡ before c (bodyAt s n next)
 unfolding bodyAt
 body-next s n at c next e k =
     ap (λ b. onCalculation b at (bodyAt s n)) (calculated-read s at (c .calculation) next k)
@@ -173,7 +171,7 @@ unfolding BodyAt
 body-either s zero at p = inl ([], at, refl, refl)
 body-either s (suc n) at p = go (calculationAt s at) refl (λ next. body-either s n next p)
   where
-    joined : (c : Calculation) (next : ℕ) → Calculated s at c next
+    joined : (c : Calculation) (next : ℕ) → CalculationAt s at c next
         → ((cs : List Placed) × (to : ℕ) × BodyAt s next cs to × (length cs ≡ n)) ⊎ Breaks s n next
         → ((cs : List Placed) × (to : ℕ) × BodyAt s at cs to × (length cs ≡ suc n)) ⊎ Breaks s (suc n) at
     joined c next k (inl (cs, to, b, e)) = inl (record { place = at; calculation = c } ∷ cs, to, (next, refl, k, b), ap suc e)
@@ -218,12 +216,12 @@ bytes-cut (b ∷ s) (suc cut) p (suc i) = bytes-cut s cut (λ j. p (suc j)) i
 
 -- operations in turn: their encodings, with what their free bits are worth
 pub turns-bytes : (s : List ℕ) (at : ℕ) (m : Machine) (os : List Operation) (to : ℕ) (n : Machine) → at ≤ length s → Turns s at m os to n
-    → (frees : List ℕ) × Stands s at (encodings frees os) to
-unfolding Turns encodings
-turns-bytes s at m [] to n h (e, f) = ([], subst (Stands s at []) e (stands-none s at h))
+    → (frees : List ℕ) × AllFree frees × Stands s at (encodings frees os) to
+unfolding Turns AllFree encodings
+turns-bytes s at m [] to n h (e, f) = ([], tt, subst (Stands s at []) e (stands-none s at h))
 turns-bytes s at m (o ∷ os) to n h (next, w, a, t) =
     let r = turns-bytes s next (after o m) os to n (w .stands .within) t in
-    (w .free ∷ r .0, stands-join (w .stands) (r .1))
+    (w .free ∷ r .0, (w .is-free, r .1), stands-join (w .stands) (r .2))
 
 -- a body
 pub body-bytes : (s : List ℕ) (at : ℕ) (cs : List Placed) (to : ℕ) → at ≤ length s → BodyAt s at cs to → Stands s at (bodyBytes cs) to

@@ -67,7 +67,7 @@ fn some_misplaced(dims: usize, modifiers: [Modifier; 8], n: usize) -> bool
 }
 
 // Why a shape is refused, if it is: too many dimensions or modifiers, a field out of range, a modifier out of place or no
-// dimension at all, the rule on low and high, the product rule.
+// dimension at all, the rule on low and high, the product rule. The coupling is not looked at.
 pub fn check_shape(s: Shape) -> Why
     ensures { λ r. ⌜ r ≡ checkShape s ⌝ }
 {

@@ -18,14 +18,15 @@ use Rattle.codec.specs.Headers.{bytesOf}
 use Rattle.codec.specs.declared.header.Width.{Width}
 use Rattle.codec.specs.declared.header.Width.the-variants.{B, H, W, D}
 use Rattle.codec.specs.declared.refusal.Refusal.the-variants as reason
+use Rattle.engine.specs.Configure.{Covers}
 use Rattle.engine.specs.Loops.{elements}
 use Rattle.engine.specs.Members.{Each}
 use Rattle.engine.specs.GroupLaws.{join}
-use Rattle.engine.specs.ChunkLaws.{Covered, covered}
+use Rattle.engine.specs.ChunkLaws.{covered}
 use Rattle.engine.specs.Registers.{reg}
 use Rattle.engine.specs.Run.{execute}
 use Rattle.engine.specs.Sheets.{run}
-use Rattle.engine.specs.Allowed.{Fits, Lies}
+use Rattle.engine.specs.Allowed.{Fits, Lies, AllLie}
 use Rattle.engine.specs.AllowedLaws.{fits-allowed}
 use Rattle.engine.specs.InStep.{InStep}
 use Rattle.engine.specs.InStep as step
@@ -65,7 +66,7 @@ open-or-finished k true e = inr e
 open-or-finished k false e = inl e
 
 -- the coupled loop is one of the loops
-covers : (m : Nest) → Accepted m → Covered (m .loops) (couplingOf (m .coupled))
+covers : (m : Nest) → Accepted m → Covers (m .loops) (couplingOf (m .coupled))
 covers m ac = covered (shapeOf m) (couplingOf (m .coupled)) (couples (shapeOf m) (m .coupled) (ac .range .coupled))
 
 module _ (m : Nest) (ac : Accepted m) (vl : ℕ) (memory : List ℕ) (fits : Fits vl (length memory)) where
@@ -106,9 +107,9 @@ module _ (m : Nest) (ac : Accepted m) (vl : ℕ) (memory : List ℕ) (fits : Fit
 
   -- an access whose visits lie inside has elements that do
   lie : (a : Access) → Each [] (λ v. Lies (length memory) (widthOf m) (placeOf m a v)) (visits m)
-      → step.AllLie (length memory) (widthOf m) (patternFor m a) (elements (shapeOf m))
+      → AllLie (length memory) (widthOf m) (patternFor m a) (elements (shapeOf m))
   lie a h =
-      subst (step.AllLie (length memory) (widthOf m) (patternFor m a)) (sym (visits-elements m))
+      subst (AllLie (length memory) (widthOf m) (patternFor m a)) (sym (visits-elements m))
       (λ k l. subst (Lies (length memory) (widthOf m)) (sym (place-address m a (getD (visits m) k []) (ac .range .loops-most))) (h k l))
 
   module _ (inside : AllInside m (length memory)) where

@@ -9,9 +9,10 @@ use mathlib.Core.List.{List, [], _∷_, _++_}
 use native.Mathlib.Omega.{arith}
 use lib.ListN.{length, take, drop, length-append, take-append-drop, List·getD-append}
 use lib.Seq.{drop-drop, drop-length, getD-append-add}
+use Rattle.engine.specs.Configure.{Covers}
 use Rattle.engine.specs.Members.{Each, Ordered}
 use Rattle.engine.specs.GroupLaws.{join, join-none, join-next}
-use Rattle.engine.specs.ChunkLaws.{Covered, groups-join, chunkOf-front}
+use Rattle.engine.specs.ChunkLaws.{groups-join, chunkOf-front}
 use Rattle.engine.specs.InStep.{chunksDone}
 use Rattle.engine.specs.InStep as step
 use Rattle.engine.specs.InOrderLaws.{chunks-over, chunks-next, done-none, done-next}
@@ -61,9 +62,9 @@ chunks-plain m few len (vs ∷ gs) memory i h =
     ∙ sym (plain-append m vs (join gs) memory)
     ∙ ap (plainOver m memory) (sym (join-next vs gs))
 
-module _ (m : Nest) (covers : Covered (m .loops) (couplingOf (m .coupled))) (lanes : ℕ) where
+module _ (m : Nest) (covers : Covers (m .loops) (couplingOf (m .coupled))) (lanes : ℕ) where
   -- the chunks of the streams are those of the visits
-  pub chunks-nest : (n : ℕ) (gs : List (List (List ℕ))) → step.Chunks (shapeOf m) lanes n gs → Chunks m lanes n gs
+  pub chunks-nest : (n : ℕ) (gs : List (List (List ℕ))) → step.StreamChunks (shapeOf m) lanes n gs → Chunks m lanes n gs
   unfolding Chunks
   chunks-nest n [] c = chunks-over (shapeOf m) lanes n c ∙ ap length (visits-elements m)
   chunks-nest n (vs ∷ gs) c =

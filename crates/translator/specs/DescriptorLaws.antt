@@ -22,9 +22,8 @@ use Rattle.engine.specs.Gains.{gain, sub-pos, added-gain}
 use Rattle.engine.specs.Registers.{noModifier}
 use Rattle.engine.specs.SameLoops.{loops-same, groups-same}
 use Rattle.engine.specs.Chunks.{chunk, chunkOf}
-use Rattle.engine.specs.ChunkLaws.{Covered}
 use Rattle.engine.specs.Addresses.{noBytes, noElements, inBytes, addressUpTo, address}
-use Rattle.engine.specs.Configure.{uncovered}
+use Rattle.engine.specs.Configure.{uncovered, Covers}
 use Rattle.engine.specs.declared.stream.Modifier.{Modifier}
 use Rattle.engine.specs.declared.stream.Shape.{Shape}
 use Rattle.translator.specs.Fields.{termOf}
@@ -93,7 +92,7 @@ module _ (m : Nest) where
   visits-elements = loops-same (sizeAt (shapeOf m)) (countAt m) (m .loops) sizes 0 (m .loops) [] (omega arith)
 
   -- in the same chunks
-  pub chunk-same : Covered (m .loops) (couplingOf (m .coupled)) → (lanes n : ℕ) → chunk (shapeOf m) lanes n ≡ chunkOf (visitGroups m) lanes n
+  pub chunk-same : Covers (m .loops) (couplingOf (m .coupled)) → (lanes n : ℕ) → chunk (shapeOf m) lanes n ≡ chunkOf (visitGroups m) lanes n
   chunk-same c lanes n = ap (λ gs. chunkOf gs lanes n) (groups-same (sizeAt (shapeOf m)) (countAt m) (m .loops) sizes (couplingOf (m .coupled)) c)
 
 -- ---- places

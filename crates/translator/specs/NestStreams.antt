@@ -35,7 +35,7 @@ use Rattle.translator.specs.KeptRules.{low-high-kept}
 use Rattle.translator.specs.RuleLaws.{highs-same, low-high-same}
 use Rattle.translator.specs.DescriptorLaws.{couples}
 use Rattle.translator.specs.PatternLaws.{dimensions-long, TidyAccess, pattern-same}
-use Rattle.engine.specs.GivingLaws.{Offers, Gives, gives-none, gives-first, gives-append}
+use Rattle.engine.specs.GivingLaws.{Offers, Leads, leads-none, leads-first, leads-append}
 use Rattle.translator.specs.declared.nest.Access.{Access}
 use Rattle.translator.specs.declared.nest.Nest.{Nest}
 
@@ -60,10 +60,10 @@ module _ (m : Nest) (range : InRange m) (i : ℕ) (low : i ≤ 31) where
 
   -- the modifiers of dimension o, for n targets from t on
   at-gives : (o t n : ℕ) (s : Stream) → t + n ≡ o → o < m .loops → length (s .dimensions) ≡ suc o → length (s .modifiers) + length (modifiersAt m o t n) ≤ 8
-      → Gives i (going s) (map (modifierOp i) (modifiersAt m o t n)) (going (plusModifiers s (modifiersAt m o t n)))
+      → Leads i (going s) (map (modifierOp i) (modifiersAt m o t n)) (going (plusModifiers s (modifiersAt m o t n)))
   unfolding modifiersAt
   at-gives o t zero s e k l f =
-      gives-none i _ _
+      leads-none i _ _
       (ap (λ qs. going (record { header = s .header; base = s .base; dimensions = s .dimensions; modifiers = qs })) (sym (append-nil (s .modifiers))))
   at-gives o t (suc n) s e k l f = go (eqb (natAbs (termOf m t o)) 0) f (at-gives o (suc t) n)
     where
@@ -74,7 +74,7 @@ module _ (m : Nest) (range : InRange m) (i : ℕ) (low : i ≤ 31) where
       q = modifierOf m o t
 
       Goal : Stream → List Modifier → Type 0
-      Goal s qs = Gives i (going s) (map (modifierOp i) qs) (going (plusModifiers s qs))
+      Goal s qs = Leads i (going s) (map (modifierOp i) qs) (going (plusModifiers s qs))
 
       go : (b : Bool) → length (s .modifiers) + length (cond b rest (q ∷ rest)) ≤ 8
           → ((u : Stream) → suc t + n ≡ o → o < m .loops → length (u .dimensions) ≡ suc o → length (u .modifiers) + length rest ≤ 8 → Goal u rest)
@@ -82,10 +82,10 @@ module _ (m : Nest) (range : InRange m) (i : ℕ) (low : i ≤ 31) where
       go true f more = more s (omega arith) k l f
       go false f more =
           let owner : length (s .dimensions) - 1 ≡ o = omega arith in
-          gives-first i (going s) (going (plusModifier q s)) (going (plusModifiers s (q ∷ rest))) (modifierOp i q) (map (modifierOp i) rest)
+          leads-first i (going s) (going (plusModifier q s)) (going (plusModifiers s (q ∷ rest))) (modifierOp i q) (map (modifierOp i) rest)
           (modifier-offers o t s (omega arith) k l (omega arith))
           (rw (eq-eqb i i refl, owner))
-          (subst (λ qs. Gives i (going (plusModifier q s)) (map (modifierOp i) rest) (going (record { header = s .header; base = s .base; dimensions = s .dimensions; modifiers = qs })))
+          (subst (λ qs. Leads i (going (plusModifier q s)) (map (modifierOp i) rest) (going (record { header = s .header; base = s .base; dimensions = s .dimensions; modifiers = qs })))
           (append-assoc (s .modifiers) (q ∷ []) rest)
           (more (plusModifier q s) (omega arith) k l (omega (arith, length-append (s .modifiers) (q ∷ [])))))
 
@@ -101,10 +101,10 @@ module _ (m : Nest) (range : InRange m) (i : ℕ) (low : i ≤ 31) where
 
     -- n dimensions from d on, each with its modifiers
     dimensions-give : (d n : ℕ) (s : Stream) → d + n ≡ m .loops → length (s .dimensions) ≡ d → length (s .modifiers) + length (modifiersFrom m d n) ≤ 8
-        → Gives i (going s) (dimensionOps m i a d n) (going (extended s (dimensionsFrom m i a d n) (modifiersFrom m d n)))
+        → Leads i (going s) (dimensionOps m i a d n) (going (extended s (dimensionsFrom m i a d n) (modifiersFrom m d n)))
     unfolding dimensionOps dimensionsFrom modifiersFrom
     dimensions-give d zero s e l f =
-        gives-none i _ _
+        leads-none i _ _
         (λ j. going (record { header = s .header; base = s .base; dimensions = sym (append-nil (s .dimensions)) j; modifiers = sym (append-nil (s .modifiers)) j }))
     dimensions-give d (suc n) s e l f =
         let x : Dimension = dimensionOf m i a d in
@@ -114,12 +114,12 @@ module _ (m : Nest) (range : InRange m) (i : ℕ) (low : i ≤ 31) where
         let t : Stream = plusModifiers (plusDimension x s) mine in
         let long : length (s .dimensions ++ (x ∷ [])) ≡ suc d = omega (arith, length-append (s .dimensions) (x ∷ [])) in
         let sum : length (mine ++ rest) ≡ length mine + length rest = length-append mine rest in
-        gives-append i (going s) (going t) _ (op.Dimension x ∷ map (modifierOp i) mine) (dimensionOps m i a (suc d) n)
-        (gives-first i (going s) (going (plusDimension x s)) (going t) (op.Dimension x) (map (modifierOp i) mine)
+        leads-append i (going s) (going t) _ (op.Dimension x ∷ map (modifierOp i) mine) (dimensionOps m i a (suc d) n)
+        (leads-first i (going s) (going (plusDimension x s)) (going t) (op.Dimension x) (map (modifierOp i) mine)
         (dimension-offers d s (omega arith) l)
         (rw (eq-eqb i i refl))
         (at-gives d 0 d (plusDimension x s) (omega arith) (omega arith) long (omega arith)))
-        (subst (λ y. Gives i (going t) (dimensionOps m i a (suc d) n) (going y))
+        (subst (λ y. Leads i (going t) (dimensionOps m i a (suc d) n) (going y))
         (λ j. record {
           header = s .header;
           base = s .base;
@@ -198,10 +198,10 @@ module _ (m : Nest) (ac : Accepted m) (i : ℕ) (low : i ≤ 31) (kind : Kind) (
   }
 
   -- open, the dimensions with their modifiers, end: none is refused
-  pub stream-gives : Gives i none (streamOps m i kind a) (ended s)
+  pub stream-gives : Leads i none (streamOps m i kind a) (ended s)
   stream-gives =
-      gives-append i none (going s) (ended s) (op.Open (headerFor m i kind) (a .base) ∷ dimensionOps m i a 0 (m .loops)) (op.End i ∷ [])
-      (gives-first i none (going opened) (going s) (op.Open (headerFor m i kind) (a .base)) (dimensionOps m i a 0 (m .loops)) open-offers
+      leads-append i none (going s) (ended s) (op.Open (headerFor m i kind) (a .base) ∷ dimensionOps m i a 0 (m .loops)) (op.End i ∷ [])
+      (leads-first i none (going opened) (going s) (op.Open (headerFor m i kind) (a .base)) (dimensionOps m i a 0 (m .loops)) open-offers
       (rw (eq-eqb i i refl))
       (dimensions-give m (ac .range) i low a (t .range) 0 (m .loops) opened (omega arith) refl (omega (arith, bounded m ac .few))))
-      (gives-first i (going s) (ended s) (ended s) (op.End i) [] end-offers (rw (eq-eqb i i refl)) (gives-none i (ended s) (ended s) refl))
+      (leads-first i (going s) (ended s) (ended s) (op.End i) [] end-offers (rw (eq-eqb i i refl)) (leads-none i (ended s) (ended s) refl))

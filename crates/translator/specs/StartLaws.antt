@@ -22,10 +22,10 @@ use Rattle.engine.specs.Given.{Stream, none, ended}
 use Rattle.engine.specs.GivenLaws.{Has, fresh-has}
 use Rattle.engine.specs.Offered.{ended-streaming}
 use Rattle.engine.specs.InStep.{Streaming}
-use Rattle.engine.specs.Promise1.{RunAt, Before}
+use Rattle.engine.specs.Promise1.{RunAt, DoneBefore}
 use Rattle.engine.specs.ReadingLaws.{in-range}
 use Rattle.engine.specs.StandLaws.{turns-append, body-one}
-use Rattle.engine.specs.GivingLaws.{Gives, gives-bytes, Turned, gives-turned}
+use Rattle.engine.specs.GivingLaws.{Leads, leads-bytes, DoneInTurn, leads-done}
 use Rattle.engine.specs.declared.register.Machine.{Machine}
 use Rattle.engine.specs.declared.run.Placed.{Placed}
 use Rattle.translator.specs.Fields.{Role, first, second, destination, accessOf}
@@ -61,7 +61,7 @@ pub record Started (m : Nest) : Type 0 where
   pub bytes : areBytes (sheetOf m)
   pub machine : Machine
   pub place : ℕ
-  pub before : Before (sheetOf m) (sheetOps m) place machine
+  pub before : DoneBefore (sheetOf m) (sheetOps m) place machine
   pub from : ℕ
   pub run-at : RunAt (sheetOf m) place 1 (body m from ∷ []) (length (sheetOf m))
   pub streams : (a : Role) → Streams m a machine
@@ -86,12 +86,12 @@ module _ (m : Nest) (ac : Accepted m) where
   low destination = omega arith
 
   -- none of the operations is refused
-  gives : (a : Role) → Gives (registerFor a) none (ops a) (ended (stream a))
+  gives : (a : Role) → Leads (registerFor a) none (ops a) (ended (stream a))
   gives a = stream-gives m ac (registerFor a) (low a) (kindFor a) (accessOf a m) (tidy-access m ac a)
 
   -- the bytes are bytes
   are : (a : Role) → Bytewise (bytes a)
-  are a = gives-bytes (registerFor a) none (ended (stream a)) (ops a) (gives a)
+  are a = leads-bytes (registerFor a) none (ended (stream a)) (ops a) (gives a)
 
   -- ---- the sheet
 
@@ -152,12 +152,12 @@ module _ (m : Nest) (ac : Accepted m) where
 
   -- one stream, from a machine whose register has nothing
   turned : (a : Role) (at to : ℕ) (n : Machine) → length (n .registers) ≡ 32 → Has none (reg n (registerFor a)) → Stands (sheetOf m) at (bytes a) to
-      → Turned (sheetOf m) (registerFor a) (ops a) (ended (stream a)) at to n
+      → DoneInTurn (sheetOf m) (registerFor a) (ops a) (ended (stream a)) at to n
   turned a at to n all h s =
-      gives-turned (sheetOf m) (registerFor a) (omega (arith, low a)) (ops a) none (ended (stream a)) at to n all (gives a) h s
+      leads-done (sheetOf m) (registerFor a) (omega (arith, low a)) (ops a) none (ended (stream a)) at to n all (gives a) h s
 
   -- the first
-  turned1 : Turned (sheetOf m) 1 (ops first) (ended (stream first)) 0 at1 freshMachine
+  turned1 : DoneInTurn (sheetOf m) 1 (ops first) (ended (stream first)) 0 at1 freshMachine
   turned1 = turned first 0 at1 freshMachine refl (fresh-has 1 (omega arith)) first-stands
 
   -- another register has nothing after the first stream
@@ -165,13 +165,13 @@ module _ (m : Nest) (ac : Accepted m) where
   after1 i h n = turned1 .others i none h n (fresh-has i h)
 
   -- the second
-  turned2 : Turned (sheetOf m) 2 (ops second) (ended (stream second)) at1 at2 (turned1 .machine)
+  turned2 : DoneInTurn (sheetOf m) 2 (ops second) (ended (stream second)) at1 at2 (turned1 .machine)
   turned2 =
       turned second at1 at2 (turned1 .machine) (turned1 .all) (after1 2 (omega arith) (λ e. omega arith))
       (stands-front (sheetOf m) (bytes second) (bytes destination) at1 at3 rest-stands)
 
   -- the third
-  turned3 : Turned (sheetOf m) 3 (ops destination) (ended (stream destination)) at2 at3 (turned2 .machine)
+  turned3 : DoneInTurn (sheetOf m) 3 (ops destination) (ended (stream destination)) at2 at3 (turned2 .machine)
   turned3 =
       turned destination at2 at3 (turned2 .machine) (turned2 .all)
       (turned2 .others 3 none (omega arith) (λ e. omega arith) (after1 3 (omega arith) (λ e. omega arith)))
@@ -182,7 +182,7 @@ module _ (m : Nest) (ac : Accepted m) where
   last = turned3 .machine
 
   -- all operations, in turn
-  in-turn : Before (sheetOf m) (sheetOps m) at3 last
+  in-turn : DoneBefore (sheetOf m) (sheetOps m) at3 last
   in-turn =
       turns-append (sheetOf m) 0 freshMachine (ops first) at1 (turned1 .machine) (ops second ++ ops destination) at3 last (turned1 .turns)
       (turns-append (sheetOf m) at1 (turned1 .machine) (ops second) at2 (turned2 .machine) (ops destination) at3 last (turned2 .turns) (turned3 .turns))

@@ -8,19 +8,19 @@ use Rattle.codec.proofs.header.header_of.Tie as tie
 fixed-bits-requires : tie.Need-fixed-bits-requires
 fixed-bits-requires c κs = search needs
 
-carried-bits-requires : tie.Need-carried-bits-requires
-carried-bits-requires c κs = search needs
+clear-bits-requires : tie.Need-clear-bits-requires
+clear-bits-requires c κs = search needs
 
 header-said-requires : tie.Need-header-said-requires
 header-said-requires c κs = search needs
 
 returns : tie.Need-returns
 unfolding headerOf
-returns c = rw (c .header-said .ensures, sym (c .before .before .before .before .fixed-bits .ensures) ∙ c .before .before .before .if1 .taken, sym (c .before .before .carried-bits .ensures) ∙ c .before .if2 .taken)
+returns c = rw (c .header-said .ensures, sym (c .before .before .before .before .fixed-bits .ensures) ∙ c .before .before .before .if1 .taken, sym (c .before .before .clear-bits .ensures) ∙ c .before .if2 .taken)
 
 returns-2 : tie.Need-returns-2
 unfolding headerOf
-returns-2 c = rw (sym (c .before .before .before .fixed-bits .ensures) ∙ c .before .before .if1 .taken, sym (c .before .carried-bits .ensures) ∙ c .if2 .left)
+returns-2 c = rw (sym (c .before .before .before .fixed-bits .ensures) ∙ c .before .before .if1 .taken, sym (c .before .clear-bits .ensures) ∙ c .if2 .left)
 
 returns-3 : tie.Need-returns-3
 unfolding headerOf
@@ -31,7 +31,7 @@ header-of-spec =
     tie.close
     (tie.spec
     fixed-bits-requires
-    carried-bits-requires
+    clear-bits-requires
     header-said-requires
     returns
     returns-2

@@ -2,7 +2,7 @@
 use Prim.Native.Nat.{ℕ, zero, suc}
 use mathlib.Core.Path.{_≡_, refl, sym, _∙_}
 use mathlib.Core.List.{List}
-use Rattle.codec.specs.Operations.{kindAt, operationAt}
+use Rattle.codec.specs.Operations.{operationNumbered, operationAt}
 use Rattle.codec.specs.declared.operation.Decoded.{Decoded}
 use Rattle.codec.specs.declared.operation.Decoded.the-variants as decoded
 use Rattle.codec.specs.declared.refusal.Refusal.{Refusal}
@@ -12,7 +12,7 @@ use Rattle.codec.proofs.operation.decode.Statement.{statement}
 use Rattle.codec.proofs.operation.decode.Tie as tie
 
 -- a kind that is none of 1 to 5
-other : (s : List ℕ) (refused : Refusal → Decoded) (kind at : ℕ) → (kind ≡ 1 → ⊥) → (kind ≡ 2 → ⊥) → (kind ≡ 3 → ⊥) → (kind ≡ 4 → ⊥) → (kind ≡ 5 → ⊥) → kindAt s refused kind at ≡ refused OutOfRange
+other : (s : List ℕ) (refused : Refusal → Decoded) (kind at : ℕ) → (kind ≡ 1 → ⊥) → (kind ≡ 2 → ⊥) → (kind ≡ 3 → ⊥) → (kind ≡ 4 → ⊥) → (kind ≡ 5 → ⊥) → operationNumbered s refused kind at ≡ refused OutOfRange
 other s refused zero at a b d e f = refl
 other s refused (suc zero) at a b d e f = absurd (a refl)
 other s refused (suc (suc zero)) at a b d e f = absurd (b refl)
@@ -28,7 +28,7 @@ text a = a .before .args .s .now
 abbrev place : tie.After-shared-slice-known → ℕ
 place a = a .before .args .c .at
 
-known : (c : tie.After-known-told) → operationAt (text (c .before .before .before .before)) (place (c .before .before .before .before)) ≡ kindAt (text (c .before .before .before .before)) (λ x. decoded.Refused x (place (c .before .before .before .before))) (c .before .kind .given .0 .0) (c .before .kind .given .0 .1 .0 .at)
+known : (c : tie.After-known-told) → operationAt (text (c .before .before .before .before)) (place (c .before .before .before .before)) ≡ operationNumbered (text (c .before .before .before .before)) (λ x. decoded.Refused x (place (c .before .before .before .before))) (c .before .kind .given .0 .0) (c .before .kind .given .0 .1 .0 .at)
 unfolding operationAt
 known c = rw (sym (c .before .before .before .number .ensures) ∙ c .before .kind .given .1)
 

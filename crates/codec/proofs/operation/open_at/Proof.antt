@@ -9,7 +9,7 @@ use Rattle.codec.specs.declared.operation.Decoded.the-variants as decode
 use Rattle.codec.specs.declared.refusal.Refusal.{Refusal}
 use Rattle.codec.specs.NumberLaws.{number-below}
 use Rattle.codec.specs.Headers.{headerOf}
-use Rattle.codec.specs.Operations.{field, isBase, opened, openAt}
+use Rattle.codec.specs.Operations.{field, isBase, openOf, openAt}
 use borrow.Author.Needs.{needs}
 use Rattle.codec.proofs.operation.open_at.Statement.{statement}
 use Rattle.codec.proofs.operation.open_at.Tie as tie
@@ -26,7 +26,7 @@ asked a = openAt (text a) (refused a) (a .before .args .c .at)
 
 -- the word leads on to the base, and a base in range to what the word says
 abbrev afterBase : tie.After-shared-slice-known → ℕ → ℕ → ℕ → Decoded
-afterBase a word base at = opened (refused a) (headerOf word) base at
+afterBase a word base at = openOf (refused a) (headerOf word) base at
 
 abbrev afterWord : tie.After-shared-slice-known → ℕ → ℕ → Decoded
 afterWord a word at = field (refused a) (numberAt (text a) at) isBase (afterBase a word)

@@ -1,9 +1,9 @@
--- `header::carried_bits` meets its contract.
+-- `header::clear_bits` meets its contract.
 use borrow.Author.Tests.{eq-eqb, ne-eqb}
 use mathlib.Core.Path.{sym, _∙_}
 use borrow.Author.Needs.{needs}
-use Rattle.codec.proofs.header.carried_bits.Statement.{statement}
-use Rattle.codec.proofs.header.carried_bits.Tie as tie
+use Rattle.codec.proofs.header.clear_bits.Statement.{statement}
+use Rattle.codec.proofs.header.clear_bits.Tie as tie
 
 bits-requires : tie.Need-bits-requires
 bits-requires c κs = search needs
@@ -17,5 +17,5 @@ bits-requires-2 c κs = search needs
 returns-2 : tie.Need-returns-2
 returns-2 c = rw (eq-eqb _ _ (sym (c .before .before .bits .ensures) ∙ c .before .if1 .left), c .bits2 .ensures)
 
-pub carried-bits-spec : {M : Type 1} → statement M
-carried-bits-spec = tie.close (tie.spec bits-requires returns bits-requires-2 returns-2)
+pub clear-bits-spec : {M : Type 1} → statement M
+clear-bits-spec = tie.close (tie.spec bits-requires returns bits-requires-2 returns-2)
