@@ -2,22 +2,24 @@
 --
 --   numbers, signedNumbers, noNumbers  bytes and the numbers they give
 --   words                              header words
+--   codes                              every code: refusals, kinds and widths, parameters and behaviours, operations of a calculation
 --   steps                              what a whole sheet decodes to
 --   sheet, refusedSheets               the sheet of "Loop nests", and sheets with a fault
 use Prim.Native.Nat.{ℕ, zero, suc}
 use mathlib.Core.Path.{_≡_, refl}
-use mathlib.Core.List.{List, [], _∷_}
+use mathlib.Core.List.{List, [], _∷_, map}
 use mathlib.Core.Bool.{cond}
 use lib.ListN.{length}
 use lib.Dec.{leb}
 use lib.IntN.{pos, negsuc}
+use Rattle.codec.specs.Refusals.{numberOf}
 use Rattle.codec.specs.Numbers.{groupsAt, numberAt, signedOf, signedAt, groupsOf, numberBytes, unsignedOf}
-use Rattle.codec.specs.Headers.{headerSaid, headerOf}
+use Rattle.codec.specs.Headers.{bytesOf, headerSaid, headerOf}
 use Rattle.codec.specs.Operations.{openAt, dimensionAt, modifierAt, endAt, runAt, operationAt, calculationAt}
 use Rattle.codec.specs.declared.number.Number.the-variants.{Value, NoNumber}
 use Rattle.codec.specs.declared.number.Signed.the-variants.{Whole}
 use Rattle.codec.specs.declared.header.Kind.the-variants.{Load, Store}
-use Rattle.codec.specs.declared.header.Width.the-variants.{B, W}
+use Rattle.codec.specs.declared.header.Width.the-variants.{B, H, W, D}
 use Rattle.codec.specs.declared.header.Coupling.the-variants.{Uncoupled, Coupled}
 use Rattle.codec.specs.declared.header.Word.the-variants as word
 use Rattle.codec.specs.declared.operation.Operation.{Operation}
@@ -31,7 +33,7 @@ use Rattle.codec.specs.declared.operation.Decoded.the-variants as decode
 use Rattle.codec.specs.declared.operation.Body.{Body}
 use Rattle.codec.specs.declared.operation.Body.the-variants as body
 use Rattle.codec.specs.declared.refusal.Refusal.{Refusal}
-use Rattle.codec.specs.declared.refusal.Refusal.the-variants.{BadNumber, OutOfRange, FixedBits, NotCarried}
+use Rattle.codec.specs.declared.refusal.Refusal.the-variants.{BadNumber, OutOfRange, FixedBits, NotCarried, WrongState, TooMany, Misplaced, LowHigh, Product, WrongKind, StreamEnded, Widths, LaneCounts, Outside, Lengths, LoopRegister, NoRoom}
 
 -- "127 is 7F, 128 is 80 01, 300 is AC 02", read and written; 2^32 - 1 takes five groups
 pub numbers :
@@ -78,6 +80,38 @@ pub words :
     × (headerOf 16793739 ≡ word.Refused NotCarried)
 unfolding headerOf headerSaid
 words = (refl, refl, refl, refl, refl, refl, refl, refl)
+
+-- the table of "Refusal numbers"; "000 to 011 store B, H, W, D; 100 to 111 load", "1, 2, 4 or 8 bytes"; "parameter (0 size, 1 offset, 2
+-- stride), behaviour (0 add, 1 subtract)"; "0 copy .., 1 add, 2 subtract, 3 and, 4 or, 5 xor, 6 signed smaller, 7 signed larger"
+pub codes :
+    (map numberOf
+    (BadNumber ∷ OutOfRange ∷ FixedBits ∷ NotCarried ∷ WrongState ∷ TooMany ∷ Misplaced ∷ LowHigh ∷ Product ∷ WrongKind ∷ StreamEnded ∷ Widths
+    ∷ LaneCounts ∷ Outside ∷ Lengths ∷ LoopRegister ∷ NoRoom ∷ [])
+    ≡ 1 ∷ 2 ∷ 3 ∷ 4 ∷ 5 ∷ 6 ∷ 7 ∷ 8 ∷ 9 ∷ 10 ∷ 11 ∷ 12 ∷ 13 ∷ 14 ∷ 15 ∷ 16 ∷ 17 ∷ [])
+    × (map headerOf (0x8b ∷ 0x108b ∷ 0x208b ∷ 0x308b ∷ [])
+    ≡ map (λ w. word.Said (record { kind = Store; width = w; register = 1; coupling = Uncoupled })) (B ∷ H ∷ W ∷ D ∷ []))
+    × (map headerOf (0x408b ∷ 0x508b ∷ 0x608b ∷ 0x708b ∷ [])
+    ≡ map (λ w. word.Said (record { kind = Load; width = w; register = 1; coupling = Uncoupled })) (B ∷ H ∷ W ∷ D ∷ []))
+    × (map bytesOf (B ∷ H ∷ W ∷ D ∷ []) ≡ 1 ∷ 2 ∷ 4 ∷ 8 ∷ [])
+    × (map (λ k. operationAt (3 ∷ 1 ∷ 4 ∷ k ∷ 0 ∷ 5 ∷ []) 0) (0 ∷ 1 ∷ 2 ∷ [])
+    ≡ map
+    (λ q.
+    decoded.Operation
+    (op.Modifier (record { register = 1; target = 4; parameter = q; behaviour = behaviour.Add; displacement = 5 }))
+    (record { at = 6 }))
+    (parameter.Size ∷ parameter.Offset ∷ parameter.Stride ∷ []))
+    × (map (λ k. operationAt (3 ∷ 1 ∷ 4 ∷ 2 ∷ k ∷ 5 ∷ []) 0) (0 ∷ 1 ∷ [])
+    ≡ map
+    (λ b.
+    decoded.Operation
+    (op.Modifier (record { register = 1; target = 4; parameter = parameter.Stride; behaviour = b; displacement = 5 }))
+    (record { at = 6 }))
+    (behaviour.Add ∷ behaviour.Subtract ∷ []))
+    × (map (λ k. calculationAt (k ∷ 3 ∷ 1 ∷ 1 ∷ []) 0) (0 ∷ 1 ∷ 2 ∷ 3 ∷ 4 ∷ 5 ∷ 6 ∷ 7 ∷ [])
+    ≡ map (λ a. body.Calculation (record { action = a; destination = 3; first = 1; second = 1 }) (record { at = 4 }))
+    (action.Copy ∷ action.Add ∷ action.Subtract ∷ action.And ∷ action.Or ∷ action.Xor ∷ action.Smaller ∷ action.Larger ∷ []))
+unfolding numberAt groupsAt signedOf headerSaid headerOf modifierAt operationAt calculationAt
+codes = (refl, refl, refl, refl, refl, refl, refl)
 
 -- what stands in a sheet, one after the other
 pub data Step : Type 0 where

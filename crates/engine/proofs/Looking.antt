@@ -336,7 +336,7 @@ module _ (r : Register) (y : Ready r) (most c : ℕ) (row : List ℕ) (i : ℕ) 
       part-onward = subst (λ j. Onward (r .pattern) (r .width) (r .moved + j) found place h') last-count (onward-more r y most (c + (n - 1)) _ _ _ short found place h' on)
 
       -- the chunk ends with it
-      pub part-last : stopsAt (shapeOf r .coupling) found h' ≡ true → leftInGroup (groupsOf (shapeOf r)) (r .moved) ≡ c + n
+      pub part-last : stopsAt (shapeOf r .coupling) found h' ≡ true → leftInGroup (streamGroups (shapeOf r)) (r .moved) ≡ c + n
       part-last t = omega (arith, ends-here r y most (c + (n - 1)) _ _ _ short found place h' on t)
 
       -- or goes on in another row

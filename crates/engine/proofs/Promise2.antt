@@ -22,6 +22,7 @@ use Rattle.engine.specs.GivenLaws.{InRegister, Has, before-has}
 use Rattle.engine.specs.MomentLaws.{inside-finished, inside-moment}
 use Rattle.engine.specs.MovingLaws.{world-last, follow-inside}
 use Rattle.engine.specs.RanLaws.{ran-named, execute-ran}
+use Rattle.engine.specs.ContentLaws.{before-empty, before-fresh}
 use Rattle.engine.proofs.Promise1.{sheet-runs}
 use Rattle.engine.specs.Promise1.{DoneBefore, LoopsOn, world}
 use Rattle.engine.specs.Promise2.{Streams, Promise2}
@@ -86,6 +87,8 @@ module _ (vl : ℕ) (s memory : List ℕ) (os : List Operation) (at : ℕ) (m : 
 pub promise2 : (vl : ℕ) (s memory : List ℕ) → areBytes s → Promise2 vl s memory
 promise2 vl s memory a = record {
   prepared = λ os at m b i h t e. inside-moment t [] m i h (ended-inside s os at m b i h t e);
+  empty = before-empty s;
+  fresh = before-fresh s;
   runs = λ f os at m loop cs b r l.
       let q = sheet-runs vl s memory a os at m loop cs b f r l in
       let w : World = world m memory in

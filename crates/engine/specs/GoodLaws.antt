@@ -160,7 +160,7 @@ opened-good vl h b e = record {
 }
 
 -- what holds of each element and of the one that is put holds of each afterwards
-set-each : {A : Type 0} (P : A → Type 0) (l : List A) (i j : ℕ) (a z : A) → P a → P (getD l j z) → P (getD (set l i a) j z)
+pub set-each : {A : Type 0} (P : A → Type 0) (l : List A) (i j : ℕ) (a z : A) → P a → P (getD l j z) → P (getD (set l i a) j z)
 set-each P [] i j a z p q = q
 set-each P (x ∷ l) zero zero a z p q = p
 set-each P (x ∷ l) zero (suc j) a z p q = q

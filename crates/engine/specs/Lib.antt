@@ -68,6 +68,7 @@ pub mod Promise2
 pub mod AllowedLaws
 pub mod CalculatesLaws
 pub mod ReasonLaws
+pub mod ContentLaws
 pub mod FieldLaws
 pub mod ReadingLaws
 pub mod StandLaws
@@ -75,8 +76,10 @@ pub mod GivingLaws
 pub mod SameLoops
 pub mod InOrderLaws
 pub mod Table
+pub mod Samples
 pub mod Outlines
 pub mod OutlineLaws
+pub mod AnswerLaws
 pub mod Rows
 pub mod RowLaws
 pub mod Stretches

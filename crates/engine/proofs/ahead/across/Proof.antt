@@ -18,7 +18,7 @@ use Rattle.engine.specs.CountLaws.{few}
 use Rattle.engine.specs.Walk.{Element}
 use Rattle.engine.specs.IndexLaws.{element-small, index-length}
 use Rattle.engine.specs.Registers.{indexOf, shapeOf}
-use Rattle.engine.specs.Chunks.{groupsOf}
+use Rattle.engine.specs.Chunks.{streamGroups}
 use Rattle.engine.specs.GroupLaws.{leftInGroup}
 use Rattle.engine.specs.declared.register.Register.{Register}
 use Rattle.engine.specs.declared.ahead.Ahead.{Ahead}
@@ -148,7 +148,7 @@ module _ (c : tie.After-part-size Inv-loop μ-loop) where
     onward-behind = let l = c .before .before .loop in
         part-onward r (l .inv .1) _ (l .count) (l .index) (l .i) (l .address) (l .size) (l .step) (l .height) _ (l .inv .0) row n some in-most in-size along found place h on
 
-    is-last : stopsAt (shapeOf r .coupling) found h ≡ true → leftInGroup (groupsOf (shapeOf r)) (r .moved) ≡ c .before .before .loop .count + n
+    is-last : stopsAt (shapeOf r .coupling) found h ≡ true → leftInGroup (streamGroups (shapeOf r)) (r .moved) ≡ c .before .before .loop .count + n
     is-last = let l = c .before .before .loop in
         part-last r (l .inv .1) _ (l .count) (l .index) (l .i) (l .address) (l .size) (l .step) (l .height) _ (l .inv .0) row n some in-most in-size along found place h on
 
