@@ -260,7 +260,7 @@ unfoldable pub bodyBytes : List Placed → List ℕ
 bodyBytes [] = []
 bodyBytes (c ∷ cs) = calculationBytes (c .calculation) ++ bodyBytes cs
 
--- each is a value of bits 19-15 and 23-22 alone
+-- values that bits 19-15 and 23-22 of a header word can be worth, each of them
 unfoldable pub AllFree : List ℕ → Type 0
 AllFree [] = Unit {0}
 AllFree (free ∷ frees) = isFree free × AllFree frees
