@@ -62,19 +62,21 @@ outcome k = drop 16 (run 8 (operated k) between .world .memory)
 
 -- ---- rows
 
--- "an offset counts bytes and a stride counts elements"; a modifier of offset and one of stride; one whose owner is two dimensions out
+-- "an offset counts bytes and a stride counts elements", of words and of doubles; a modifier of offset and one of stride; one whose owner is
+-- two dimensions out
 pub patterns :
     (addresses (widened (0x8b ∷ 0x81 ∷ 1 ∷ [])) ≡ pos 0 ∷ pos 1 ∷ [])
     × (addresses (widened (0x8b ∷ 0xa1 ∷ 1 ∷ [])) ≡ pos 0 ∷ pos 2 ∷ [])
     × (addresses (widened (0x8b ∷ 0xc1 ∷ 1 ∷ [])) ≡ pos 0 ∷ pos 4 ∷ [])
     × (addresses (widened (0x8b ∷ 0xe1 ∷ 1 ∷ [])) ≡ pos 0 ∷ pos 8 ∷ [])
+    × (addresses (1 ∷ 0x8b ∷ 0xe1 ∷ 1 ∷ 0 ∷ 2 ∷ 1 ∷ 6 ∷ 2 ∷ 2 ∷ 4 ∷ 1 ∷ []) ≡ pos 3 ∷ pos 11 ∷ [])
     × (addresses shifted ≡ pos 102 ∷ pos 110 ∷ pos 147 ∷ pos 151 ∷ pos 192 ∷ pos 192 ∷ [])
     × (addresses far ≡ pos 0 ∷ pos 10 ∷ pos 100 ∷ pos 101 ∷ pos 102 ∷ pos 110 ∷ pos 111 ∷ pos 112 ∷ [])
 unfolding widened shifted far register prepared addresses
     groupsAt numberAt signedOf headerSaid headerOf openAt dimensionAt modifierAt endAt operationAt
     sizeAt added span loops elements only highs lowOrHighFrom product height differ
     addressUpTo firstOf movedBy whyNot configured operationsFrom
-patterns = (refl, refl, refl, refl, refl, refl)
+patterns = (refl, refl, refl, refl, refl, refl, refl)
 
 -- "1 add, 2 subtract, 3 and, 4 or, 5 xor, 6 signed smaller, 7 signed larger": "200 + 100 = 44; 0 - 1 = 255; smaller of 80h and 01h is 80h"
 pub operations :

@@ -55,7 +55,7 @@ operations-over zero s at m h = refl
 operations-over (suc n) s at m h = rw (le-ltb at (length s) h)
 
 -- one turn, where a byte is left
-operations-turn : (n : ℕ) (s : List ℕ) (at : ℕ) (m : Machine) → at < length s
+pub operations-turn : (n : ℕ) (s : List ℕ) (at : ℕ) (m : Machine) → at < length s
     → operationsFrom (suc n) s at m ≡ onDecoded s at m (operationAt s at) (operationsFrom n s)
 unfolding operationsFrom
 operations-turn n s at m h =
