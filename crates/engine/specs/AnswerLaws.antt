@@ -18,7 +18,7 @@ use Rattle.engine.specs.Bodies.{progressOf, settledOf}
 use Rattle.engine.specs.SheetLaws.{operations-turn}
 use Rattle.engine.specs.ReadingLaws.{written-read}
 use Rattle.engine.specs.StandLaws.{written-on, decoded-done}
-use Rattle.engine.specs.Promise1.{Turns, Before, after}
+use Rattle.engine.specs.Promise1.{Turns, DoneBefore, after}
 use Rattle.engine.specs.declared.register.Machine.{Machine}
 use Rattle.engine.specs.declared.run.Answer.{Answer}
 use Rattle.engine.specs.declared.run.Verdict.the-variants.{Done}
@@ -45,7 +45,7 @@ turns-some s at m (o ∷ os) to n b t =
     ∙ turns-some s (t .0) (after o m) os to n b (t .3)
 
 -- so setting up as many operations as were done gives the registers that they leave
-pub settled-some : (s : List ℕ) (os : List Operation) (at : ℕ) (m : Machine) → areBytes s → Before s os at m
+pub settled-some : (s : List ℕ) (os : List Operation) (at : ℕ) (m : Machine) → areBytes s → DoneBefore s os at m
     → settledOf (operationsFrom (length os) s 0 freshMachine) ≡ record { verdict = Done; machine = m }
 settled-some s os at m b t = ap settledOf (turns-some s 0 freshMachine os at m b t)
 
