@@ -10,15 +10,19 @@ use borrow.Author.Needs.{needs}
 use Rattle.codec.proofs.operation.decode_calculation.Statement.{statement}
 use Rattle.codec.proofs.operation.decode_calculation.Tie as tie
 
+-- what is asked
+abbrev asked : Asked Body → Body
+asked a = calculationAt (a .text) (a .from)
+
 -- what each number in range leads on to
-abbrev afterSecond : Asked Body → ℕ → ℕ → ℕ → ℕ → ℕ → Body
-afterSecond a code destination first second at =
+abbrev afterSecond : ℕ → ℕ → ℕ → ℕ → ℕ → Body
+afterSecond code destination first second at =
     body.Calculation
     (record { action = actionCoded code; destination = destination; first = first; second = second })
     (record { at = at })
 
 abbrev afterFirst : Asked Body → ℕ → ℕ → ℕ → ℕ → Body
-afterFirst a code destination first = number a (isSecond code first) (afterSecond a code destination first)
+afterFirst a code destination first = number a (isSecond code first) (afterSecond code destination first)
 
 abbrev afterDestination : Asked Body → ℕ → ℕ → ℕ → Body
 afterDestination a code destination = number a isRegister (afterFirst a code destination)
@@ -30,26 +34,26 @@ afterCode a code = number a isRegister (afterDestination a code)
 abbrev begin : tie.Else1 → Asked Body
 begin c = let a = c .before .before .before .before .before .before .args in calculation (a .s .now) (a .c .at)
 
-one : (c : tie.Else1) → calculationAt ((begin c) .text) ((begin c) .from) ≡ afterCode (begin c) (c .before .before .code .given .0 .0) (c .before .before .code .given .0 .1 .0 .at)
+one : (c : tie.Else1) → asked (begin c) ≡ afterCode (begin c) (c .before .before .code .given .0 .0) (c .before .before .code .given .0 .1 .0 .at)
 unfolding calculationAt
 one c = rw (sym (c .before .before .before .before .number .ensures) ∙ c .before .before .code .given .1, le-leb _ _ (c .if1 .left))
 
 abbrev to1 : tie.Else2 → tie.Else1
 to1 c = c .before .before .before .before .before
 
-two : (c : tie.Else2) → calculationAt ((begin (to1 c)) .text) ((begin (to1 c)) .from) ≡ afterDestination (begin (to1 c)) ((to1 c) .before .before .code .given .0 .0) (c .before .before .destination .given .0 .0) (c .before .before .destination .given .0 .1 .0 .at)
+two : (c : tie.Else2) → asked (begin (to1 c)) ≡ afterDestination (begin (to1 c)) ((to1 c) .before .before .code .given .0 .0) (c .before .before .destination .given .0 .0) (c .before .before .destination .given .0 .1 .0 .at)
 two c = one (to1 c) ∙ rw (sym (c .before .before .before .before .number2 .ensures) ∙ c .before .before .destination .given .1, le-leb _ _ (c .if2 .left))
 
 abbrev to2 : tie.Else3 → tie.Else2
 to2 c = c .before .before .before .before .before
 
-three : (c : tie.Else3) → calculationAt ((begin (to1 (to2 c))) .text) ((begin (to1 (to2 c))) .from) ≡ afterFirst (begin (to1 (to2 c))) ((to1 (to2 c)) .before .before .code .given .0 .0) ((to2 c) .before .before .destination .given .0 .0) (c .before .before .first .given .0 .0) (c .before .before .first .given .0 .1 .0 .at)
+three : (c : tie.Else3) → asked (begin (to1 (to2 c))) ≡ afterFirst (begin (to1 (to2 c))) ((to1 (to2 c)) .before .before .code .given .0 .0) ((to2 c) .before .before .destination .given .0 .0) (c .before .before .first .given .0 .0) (c .before .before .first .given .0 .1 .0 .at)
 three c = two (to2 c) ∙ rw (sym (c .before .before .before .before .number3 .ensures) ∙ c .before .before .first .given .1, le-leb _ _ (c .if3 .left))
 
 abbrev to3 : tie.Else4 → tie.Else3
 to3 c = c .before .before .before .before .before .before
 
-four : (c : tie.Else4) → calculationAt ((begin (to1 (to2 (to3 c)))) .text) ((begin (to1 (to2 (to3 c)))) .from) ≡ afterSecond (begin (to1 (to2 (to3 c)))) ((to1 (to2 (to3 c))) .before .before .code .given .0 .0) ((to2 (to3 c)) .before .before .destination .given .0 .0) ((to3 c) .before .before .first .given .0 .0) (c .before .before .before .second .given .0 .0) (c .before .before .before .second .given .0 .1 .0 .at)
+four : (c : tie.Else4) → asked (begin (to1 (to2 (to3 c)))) ≡ afterSecond ((to1 (to2 (to3 c))) .before .before .code .given .0 .0) ((to2 (to3 c)) .before .before .destination .given .0 .0) ((to3 c) .before .before .first .given .0 .0) (c .before .before .before .second .given .0 .0) (c .before .before .before .second .given .0 .1 .0 .at)
 four c = three (to3 c) ∙ rw (sym (c .before .before .before .before .before .number4 .ensures) ∙ c .before .before .before .second .given .1, sym (c .before .is-second .ensures) ∙ not-false _ (c .if4 .left))
 
 number-requires : tie.Need-number-requires

@@ -14,14 +14,14 @@ use Rattle.codec.proofs.operation.dimension_at.Statement.{statement}
 use Rattle.codec.proofs.operation.dimension_at.Tie as tie
 
 -- what each number in range leads on to
-abbrev afterStride : Asked Decoded → ℕ → ℤ → ℕ → ℤ → ℕ → Decoded
-afterStride a register offset size stride at =
+abbrev afterStride : ℕ → ℤ → ℕ → ℤ → ℕ → Decoded
+afterStride register offset size stride at =
     decoded.Operation
     (op.Dimension (record { register = register; offset = record { 0 = offset }; size = size; stride = record { 0 = stride } }))
     (record { at = at })
 
 abbrev afterSize : Asked Decoded → ℕ → ℤ → ℕ → ℕ → Decoded
-afterSize a register offset size = signed a isReach (afterStride a register offset size)
+afterSize a register offset size = signed a isReach (afterStride register offset size)
 
 abbrev afterOffset : Asked Decoded → ℕ → ℤ → ℕ → Decoded
 afterOffset a register offset = number a isSize (afterSize a register offset)
@@ -52,7 +52,7 @@ three c = two (to2 c) ∙ rw (sym (c .before .before .before .before .number2 .e
 abbrev to3 : tie.Else4 → tie.Else3
 to3 c = c .before .before .before .before .before .before
 
-four : (c : tie.Else4) → answer dimensionAt (begin (to1 (to2 (to3 c)))) ≡ afterStride (begin (to1 (to2 (to3 c)))) ((to1 (to2 (to3 c))) .before .before .register .given .0 .0) ((to2 (to3 c)) .before .before .before .offset .given .0 .0) ((to3 c) .before .before .size .given .0 .0) (c .before .before .before .stride .given .0 .0) (c .before .before .before .stride .given .0 .1 .0 .at)
+four : (c : tie.Else4) → answer dimensionAt (begin (to1 (to2 (to3 c)))) ≡ afterStride ((to1 (to2 (to3 c))) .before .before .register .given .0 .0) ((to2 (to3 c)) .before .before .before .offset .given .0 .0) ((to3 c) .before .before .size .given .0 .0) (c .before .before .before .stride .given .0 .0) (c .before .before .before .stride .given .0 .1 .0 .at)
 four c = three (to3 c) ∙ rw (sym (c .before .before .before .before .before .signed2 .ensures) ∙ c .before .before .before .stride .given .1, signed-reach _ _ (sym (c .before .before .before .before .before .signed2 .ensures) ∙ c .before .before .before .stride .given .1) (c .before .in-reach2 .ensures) ∙ not-false _ (c .if4 .left))
 
 number-requires : tie.Need-number-requires

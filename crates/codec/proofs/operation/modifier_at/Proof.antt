@@ -12,8 +12,8 @@ use Rattle.codec.proofs.operation.modifier_at.Statement.{statement}
 use Rattle.codec.proofs.operation.modifier_at.Tie as tie
 
 -- what each number in range leads on to
-abbrev afterDisplacement : Asked Decoded → ℕ → ℕ → ℕ → ℕ → ℕ → ℕ → Decoded
-afterDisplacement a register target parameter behaviour displacement at =
+abbrev afterDisplacement : ℕ → ℕ → ℕ → ℕ → ℕ → ℕ → Decoded
+afterDisplacement register target parameter behaviour displacement at =
     decoded.Operation
     (op.Modifier
     (record {
@@ -26,7 +26,7 @@ afterDisplacement a register target parameter behaviour displacement at =
     (record { at = at })
 
 abbrev afterBehaviour : Asked Decoded → ℕ → ℕ → ℕ → ℕ → ℕ → Decoded
-afterBehaviour a register target parameter behaviour = number a isDisplacement (afterDisplacement a register target parameter behaviour)
+afterBehaviour a register target parameter behaviour = number a isDisplacement (afterDisplacement register target parameter behaviour)
 
 abbrev afterParameter : Asked Decoded → ℕ → ℕ → ℕ → ℕ → Decoded
 afterParameter a register target parameter = number a (upTo 1) (afterBehaviour a register target parameter)
@@ -66,7 +66,7 @@ four c = three (to3 c) ∙ rw (sym (c .before .before .before .before .number4 .
 abbrev to4 : tie.Else5 → tie.Else4
 to4 c = c .before .before .before .before .before
 
-five : (c : tie.Else5) → answer modifierAt (begin (to1 (to2 (to3 (to4 c))))) ≡ afterDisplacement (begin (to1 (to2 (to3 (to4 c))))) ((to1 (to2 (to3 (to4 c)))) .before .before .register .given .0 .0) ((to2 (to3 (to4 c))) .before .before .target .given .0 .0) ((to3 (to4 c)) .before .before .parameter .given .0 .0) ((to4 c) .before .before .behaviour .given .0 .0) (c .before .before .displacement .given .0 .0) (c .before .before .displacement .given .0 .1 .0 .at)
+five : (c : tie.Else5) → answer modifierAt (begin (to1 (to2 (to3 (to4 c))))) ≡ afterDisplacement ((to1 (to2 (to3 (to4 c)))) .before .before .register .given .0 .0) ((to2 (to3 (to4 c))) .before .before .target .given .0 .0) ((to3 (to4 c)) .before .before .parameter .given .0 .0) ((to4 c) .before .before .behaviour .given .0 .0) (c .before .before .displacement .given .0 .0) (c .before .before .displacement .given .0 .1 .0 .at)
 five c = four (to4 c) ∙ rw (sym (c .before .before .before .before .number5 .ensures) ∙ c .before .before .displacement .given .1, le-leb _ _ (c .if5 .left))
 
 number-requires : tie.Need-number-requires
