@@ -1,5 +1,4 @@
--- Numbers that are read and then checked for range: what `field` and `signedField` give, over whatever is asked next, and that a signed
--- number that was read is handed on as it is.
+-- Signed numbers that are read and then checked for range: one that was read is handed on as it is.
 use Prim.Native.Nat.{ℕ, _+_, _/_, _%_, _≤_, _<_}
 use mathlib.Core.Path.{_≡_, refl, sym}
 use mathlib.Core.List.{List}
@@ -12,34 +11,11 @@ use mir.Val.{toZ, ofZ}
 use Rattle.codec.proofs.Integers.{back}
 use Rattle.codec.specs.Numbers.{numberAt, signedAt, signedOf, asSigned}
 use Rattle.codec.specs.NumberLaws.{number-below}
-use Rattle.codec.specs.Operations.{field, signedField, isReach}
+use Rattle.codec.specs.Operations.{isReach}
 use Rattle.codec.specs.declared.number.Cursor.{Cursor}
 use Rattle.codec.specs.declared.number.Number.{Number}
 use Rattle.codec.specs.declared.number.Number.the-variants.{Value, NoNumber}
-use Rattle.codec.specs.declared.number.Signed.{Signed}
-use Rattle.codec.specs.declared.number.Signed.the-variants.{Whole, NoWhole}
-use Rattle.codec.specs.declared.refusal.Refusal.{Refusal}
-use Rattle.codec.specs.declared.refusal.Refusal.the-variants.{BadNumber, OutOfRange}
-
-module _ {A : Type 0} {n : Number} (refused : Refusal → A) (allowed : ℕ → Bool) (next : ℕ → ℕ → A) where
-  pub field-none : n ≡ NoNumber → field refused n allowed next ≡ refused BadNumber
-  field-none e = rw e
-
-  pub field-over : {v : ℕ} {c : Cursor} → n ≡ Value v c → allowed v ≡ false → field refused n allowed next ≡ refused OutOfRange
-  field-over e h = rw (e, h)
-
-  pub field-read : {v : ℕ} {c : Cursor} → n ≡ Value v c → allowed v ≡ true → field refused n allowed next ≡ next v (c .at)
-  field-read e h = rw (e, h)
-
-module _ {A : Type 0} {n : Signed} (refused : Refusal → A) (allowed : ℤ → Bool) (next : ℤ → ℕ → A) where
-  pub signed-none : n ≡ NoWhole → signedField refused n allowed next ≡ refused BadNumber
-  signed-none e = rw e
-
-  pub signed-over : {z : ℤ} {c : Cursor} → n ≡ Whole z c → allowed z ≡ false → signedField refused n allowed next ≡ refused OutOfRange
-  signed-over e h = rw (e, h)
-
-  pub signed-read : {z : ℤ} {c : Cursor} → n ≡ Whole z c → allowed z ≡ true → signedField refused n allowed next ≡ next z (c .at)
-  signed-read e h = rw (e, h)
+use Rattle.codec.specs.declared.number.Signed.the-variants.{Whole}
 
 half : (v : ℕ) (b : Bool) → natAbs (cond b (pos (v / 2)) (negsuc (v / 2))) ≤ v + 1
 half v true = omega arith

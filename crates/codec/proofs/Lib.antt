@@ -1,5 +1,6 @@
 pub mod Integers
 mod Groups
 pub mod Fields
+mod Asked
 mod Texts
 mod Ranges

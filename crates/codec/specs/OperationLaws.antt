@@ -112,6 +112,18 @@ action-back action.Xor = refl
 action-back action.Smaller = refl
 action-back action.Larger = refl
 
+-- three texts side by side in `s`: each stands behind those before it
+record Three (s pre post n0 n1 n2 : List ℕ) : Type 0 where
+  e0 : s ≡ pre ++ (n0 ++ (n1 ++ (n2 ++ post)))
+  e1 : s ≡ (pre ++ n0) ++ (n1 ++ (n2 ++ post))
+  e2 : s ≡ (pre ++ n0 ++ n1) ++ (n2 ++ post)
+  g : pre ++ n0 ++ n1 ++ n2 ≡ pre ++ (n0 ++ n1 ++ n2)
+
+-- the same from the three as one text
+three : (s pre post n0 n1 n2 : List ℕ) → s ≡ pre ++ ((n0 ++ n1 ++ n2) ++ post) → Three s pre post n0 n1 n2
+three s pre post n0 n1 n2 e =
+    record { e0 = e ∙ simp append-assoc; e1 = e ∙ simp append-assoc; e2 = e ∙ simp append-assoc; g = simp append-assoc }
+
 module _ (s pre post : List ℕ) where
   -- an open that was written is read back
   open-written : (free : ℕ) (h : Header) (b : Bytes) → isFree free → operationInRange (op.Open h b) ≡ true → s ≡ pre ++ (operationBytes free (op.Open h b) ++ post)
@@ -123,18 +135,15 @@ module _ (s pre post : List ℕ) where
       let n0 = numberBytes 1 in
       let n1 = numberBytes (wordOf h + free) in
       let n2 = numberBytes (natAbs (b .0)) in
-      let e0 : s ≡ pre ++ (n0 ++ (n1 ++ (n2 ++ post))) = e ∙ simp append-assoc in
-      let e1 : s ≡ (pre ++ n0) ++ (n1 ++ (n2 ++ post)) = e ∙ simp append-assoc in
-      let e2 : s ≡ (pre ++ n0 ++ n1) ++ (n2 ++ post) = e ∙ simp append-assoc in
-      let g : pre ++ n0 ++ n1 ++ n2 ≡ pre ++ (n0 ++ n1 ++ n2) = simp append-assoc in
+      let k = three s pre post n0 n1 n2 e in
       rw (
-        read s pre _ 1 (omega arith) e0,
-        read s (pre ++ n0) _ (wordOf h + free) (word-below h free rh f) e1,
-        read s (pre ++ n0 ++ n1) _ (natAbs (b .0)) (most (natAbs (b .0)) 1048576 (rb .1) (omega arith)) e2,
+        read s pre _ 1 (omega arith) (k .e0),
+        read s (pre ++ n0) _ (wordOf h + free) (word-below h free rh f) (k .e1),
+        read s (pre ++ n0 ++ n1) _ (natAbs (b .0)) (most (natAbs (b .0)) 1048576 (rb .1) (omega arith)) (k .e2),
         rb .1,
         header-written h free rh f,
         abs-back (b .0) (rb .0),
-        g,
+        k .g,
       )
 
   -- a dimension that was written is read back
@@ -229,17 +238,14 @@ module _ (s pre post : List ℕ) where
       let n0 = numberBytes 5 in
       let n1 = numberBytes register in
       let n2 = numberBytes count in
-      let e0 : s ≡ pre ++ (n0 ++ (n1 ++ (n2 ++ post))) = e ∙ simp append-assoc in
-      let e1 : s ≡ (pre ++ n0) ++ (n1 ++ (n2 ++ post)) = e ∙ simp append-assoc in
-      let e2 : s ≡ (pre ++ n0 ++ n1) ++ (n2 ++ post) = e ∙ simp append-assoc in
-      let g : pre ++ n0 ++ n1 ++ n2 ≡ pre ++ (n0 ++ n1 ++ n2) = simp append-assoc in
+      let k = three s pre post n0 n1 n2 e in
       rw (
-        read s pre _ 5 (omega arith) e0,
-        read s (pre ++ n0) _ register (most register 31 (rr .0) (omega arith)) e1,
+        read s pre _ 5 (omega arith) (k .e0),
+        read s (pre ++ n0) _ register (most register 31 (rr .0) (omega arith)) (k .e1),
         rr .0,
-        read s (pre ++ n0 ++ n1) _ count (most count 16 (both (leb 1 count) (leb count 16) (rr .1) .1) (omega arith)) e2,
+        read s (pre ++ n0 ++ n1) _ count (most count 16 (both (leb 1 count) (leb count 16) (rr .1) .1) (omega arith)) (k .e2),
         rr .1,
-        g,
+        k .g,
       )
 
   -- an operation in range that was written is read back, after anything and before anything
@@ -286,40 +292,33 @@ module _ (s pre post : List ℕ) where
 -- ---- read, then written
 
 -- a field that was not refused: its number, in range, and what came after it
-record Good {A : Type 0} (n : Number) (allowed : ℕ → Bool) (next : ℕ → ℕ → A) (a : A) : Type 0 where
-  v : ℕ
+record Good {A B N : Type 0} (read : B → Cursor → N) (n : N) (allowed : B → Bool) (next : B → ℕ → A) (a : A) : Type 0 where
+  v : B
   c : Cursor
-  got : n ≡ Value v c
+  got : n ≡ read v c
   fine : allowed v ≡ true
   went : next v (c .at) ≡ a
+
+-- an answer that is no refusal comes from a number in range
+good-read : {A B N : Type 0} (read : B → Cursor → N) (refused : Refusal → A) (v : B) (c : Cursor) (allowed : B → Bool) (next : B → ℕ → A) (a : A)
+    → ((x : Refusal) → refused x ≡ a → ⊥) → cond (allowed v) (next v (c .at)) (refused OutOfRange) ≡ a → Good read (read v c) allowed next a
+good-read read refused v c allowed next a never e = go (allowed v) refl e
+  where
+    go : (t : Bool) → allowed v ≡ t → cond t (next v (c .at)) (refused OutOfRange) ≡ a → Good read (read v c) allowed next a
+    go true t q = record { v = v; c = c; got = refl; fine = t; went = q }
+    go false t q = absurd (never OutOfRange q)
 
 -- an answer that is no refusal comes from a field that was not refused
 good : {A : Type 0} (refused : Refusal → A) (n : Number) (allowed : ℕ → Bool) (next : ℕ → ℕ → A) (a : A) → ((x : Refusal) → refused x ≡ a → ⊥)
-    → field refused n allowed next ≡ a → Good n allowed next a
+    → field refused n allowed next ≡ a → Good Value n allowed next a
 good refused NoNumber allowed next a never e = absurd (never BadNumber e)
-good refused (Value v c) allowed next a never e = go (allowed v) refl e
-  where
-    go : (t : Bool) → allowed v ≡ t → cond t (next v (c .at)) (refused OutOfRange) ≡ a → Good (Value v c) allowed next a
-    go true t q = record { v = v; c = c; got = refl; fine = t; went = q }
-    go false t q = absurd (never OutOfRange q)
+good refused (Value v c) allowed next a never e = good-read Value refused v c allowed next a never e
 
 -- the same for a signed field
-record GoodSigned {A : Type 0} (n : Signed) (allowed : ℤ → Bool) (next : ℤ → ℕ → A) (a : A) : Type 0 where
-  v : ℤ
-  c : Cursor
-  got : n ≡ Whole v c
-  fine : allowed v ≡ true
-  went : next v (c .at) ≡ a
-
--- an answer that is no refusal comes from a signed field that was not refused
 good-signed : {A : Type 0} (refused : Refusal → A) (n : Signed) (allowed : ℤ → Bool) (next : ℤ → ℕ → A) (a : A) → ((x : Refusal) → refused x ≡ a → ⊥)
-    → signedField refused n allowed next ≡ a → GoodSigned n allowed next a
+    → signedField refused n allowed next ≡ a → Good Whole n allowed next a
 good-signed refused NoWhole allowed next a never e = absurd (never BadNumber e)
-good-signed refused (Whole v c) allowed next a never e = go (allowed v) refl e
-  where
-    go : (t : Bool) → allowed v ≡ t → cond t (next v (c .at)) (refused OutOfRange) ≡ a → GoodSigned (Whole v c) allowed next a
-    go true t q = record { v = v; c = c; got = refl; fine = t; went = q }
-    go false t q = absurd (never OutOfRange q)
+good-signed refused (Whole v c) allowed next a never e = good-read Whole refused v c allowed next a never e
 
 -- what stands where an operation was read: it is in range, and its bytes are those written for it, free bits aside
 pub record Decoding (s : List ℕ) (at : ℕ) (o : Operation) (to : ℕ) : Type 0 where

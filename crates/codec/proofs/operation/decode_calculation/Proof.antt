@@ -1,47 +1,38 @@
 -- `operation::decode_calculation` meets its contract: each number in range leads on to the next, as in `calculationAt`.
 use borrow.Author.Tests.{le-leb, lt-leb, not-true, not-false}
 use mathlib.Core.Path.{_≡_, sym, _∙_}
-use mathlib.Core.List.{List}
 use Prim.Native.Nat.{ℕ}
-use Rattle.codec.specs.Numbers.{numberAt}
 use Rattle.codec.specs.declared.operation.Body.{Body}
 use Rattle.codec.specs.declared.operation.Body.the-variants as body
-use Rattle.codec.specs.declared.refusal.Refusal.{Refusal}
-use Rattle.codec.specs.Operations.{field, isRegister, isSecond, actionCoded, calculationAt}
+use Rattle.codec.specs.Operations.{isRegister, isSecond, actionCoded, calculationAt}
+use Rattle.codec.proofs.Asked.{Asked, calculation, number}
 use borrow.Author.Needs.{needs}
 use Rattle.codec.proofs.operation.decode_calculation.Statement.{statement}
 use Rattle.codec.proofs.operation.decode_calculation.Tie as tie
 
--- where the function starts, what it is asked, and its refusals
-abbrev text : tie.After-shared-slice-known → List ℕ
-text a = a .before .args .s .now
-
-abbrev refused : tie.After-shared-slice-known → Refusal → Body
-refused a x = body.Refused x (a .before .args .c .at)
-
-abbrev asked : tie.After-shared-slice-known → Body
-asked a = calculationAt (text a) (a .before .args .c .at)
+-- what is asked
+abbrev asked : Asked Body → Body
+asked a = calculationAt (a .text) (a .from)
 
 -- what each number in range leads on to
-abbrev afterSecond : tie.After-shared-slice-known → ℕ → ℕ → ℕ → ℕ → ℕ → Body
-afterSecond a code destination first second at =
+abbrev afterSecond : ℕ → ℕ → ℕ → ℕ → ℕ → Body
+afterSecond code destination first second at =
     body.Calculation
     (record { action = actionCoded code; destination = destination; first = first; second = second })
     (record { at = at })
 
-abbrev afterFirst : tie.After-shared-slice-known → ℕ → ℕ → ℕ → ℕ → Body
-afterFirst a code destination first at =
-    field (refused a) (numberAt (text a) at) (isSecond code first) (afterSecond a code destination first)
+abbrev afterFirst : Asked Body → ℕ → ℕ → ℕ → ℕ → Body
+afterFirst a code destination first = number a (isSecond code first) (afterSecond code destination first)
 
-abbrev afterDestination : tie.After-shared-slice-known → ℕ → ℕ → ℕ → Body
-afterDestination a code destination at = field (refused a) (numberAt (text a) at) isRegister (afterFirst a code destination)
+abbrev afterDestination : Asked Body → ℕ → ℕ → ℕ → Body
+afterDestination a code destination = number a isRegister (afterFirst a code destination)
 
-abbrev afterCode : tie.After-shared-slice-known → ℕ → ℕ → Body
-afterCode a code at = field (refused a) (numberAt (text a) at) isRegister (afterDestination a code)
+abbrev afterCode : Asked Body → ℕ → ℕ → Body
+afterCode a code = number a isRegister (afterDestination a code)
 
 -- from a number in range back to the one before it
-abbrev begin : tie.Else1 → tie.After-shared-slice-known
-begin c = c .before .before .before .before .before
+abbrev begin : tie.Else1 → Asked Body
+begin c = let a = c .before .before .before .before .before .before .args in calculation (a .s .now) (a .c .at)
 
 one : (c : tie.Else1) → asked (begin c) ≡ afterCode (begin c) (c .before .before .code .given .0 .0) (c .before .before .code .given .0 .1 .0 .at)
 unfolding calculationAt
@@ -62,7 +53,7 @@ three c = two (to2 c) ∙ rw (sym (c .before .before .before .before .number3 .e
 abbrev to3 : tie.Else4 → tie.Else3
 to3 c = c .before .before .before .before .before .before
 
-four : (c : tie.Else4) → asked (begin (to1 (to2 (to3 c)))) ≡ afterSecond (begin (to1 (to2 (to3 c)))) ((to1 (to2 (to3 c))) .before .before .code .given .0 .0) ((to2 (to3 c)) .before .before .destination .given .0 .0) ((to3 c) .before .before .first .given .0 .0) (c .before .before .before .second .given .0 .0) (c .before .before .before .second .given .0 .1 .0 .at)
+four : (c : tie.Else4) → asked (begin (to1 (to2 (to3 c)))) ≡ afterSecond ((to1 (to2 (to3 c))) .before .before .code .given .0 .0) ((to2 (to3 c)) .before .before .destination .given .0 .0) ((to3 c) .before .before .first .given .0 .0) (c .before .before .before .second .given .0 .0) (c .before .before .before .second .given .0 .1 .0 .at)
 four c = three (to3 c) ∙ rw (sym (c .before .before .before .before .before .number4 .ensures) ∙ c .before .before .before .second .given .1, sym (c .before .is-second .ensures) ∙ not-false _ (c .if4 .left))
 
 number-requires : tie.Need-number-requires

@@ -1,70 +1,58 @@
 -- `operation::dimension_at` meets its contract: each number in range leads on to the next, as in `dimensionAt`; a signed number that was read fits 64 bits.
 use borrow.Author.Tests.{le-leb, lt-leb, not-true, not-false}
 use mathlib.Core.Path.{_≡_, sym, _∙_}
-use mathlib.Core.List.{List}
 use Prim.Native.Nat.{ℕ}
 use lib.IntN.{ℤ}
-use Rattle.codec.specs.Numbers.{numberAt, signedAt}
 use Rattle.codec.specs.declared.operation.Decoded.{Decoded}
 use Rattle.codec.specs.declared.operation.Decoded.the-variants as decoded
-use Rattle.codec.specs.declared.refusal.Refusal.{Refusal}
-use Rattle.codec.specs.Operations.{field, signedField, isReach, isSize, dimensionAt}
+use Rattle.codec.specs.Operations.{isReach, isSize, dimensionAt}
 use Rattle.codec.specs.declared.operation.Operation.the-variants as op
 use Rattle.codec.proofs.Fields.{signed-back, signed-reach}
+use Rattle.codec.proofs.Asked.{Asked, operation, answer, number, signed}
 use borrow.Author.Needs.{needs}
 use Rattle.codec.proofs.operation.dimension_at.Statement.{statement}
 use Rattle.codec.proofs.operation.dimension_at.Tie as tie
 
--- where the function starts, what it is asked, and its refusals
-abbrev text : tie.After-shared-slice-known → List ℕ
-text a = a .before .args .s .now
-
-abbrev refused : tie.After-shared-slice-known → Refusal → Decoded
-refused a x = decoded.Refused x (a .before .args .place)
-
-abbrev asked : tie.After-shared-slice-known → Decoded
-asked a = dimensionAt (text a) (refused a) (a .before .args .c .at)
-
 -- what each number in range leads on to
-abbrev afterStride : tie.After-shared-slice-known → ℕ → ℤ → ℕ → ℤ → ℕ → Decoded
-afterStride a register offset size stride at =
+abbrev afterStride : ℕ → ℤ → ℕ → ℤ → ℕ → Decoded
+afterStride register offset size stride at =
     decoded.Operation
     (op.Dimension (record { register = register; offset = record { 0 = offset }; size = size; stride = record { 0 = stride } }))
     (record { at = at })
 
-abbrev afterSize : tie.After-shared-slice-known → ℕ → ℤ → ℕ → ℕ → Decoded
-afterSize a register offset size at = signedField (refused a) (signedAt (text a) at) isReach (afterStride a register offset size)
+abbrev afterSize : Asked Decoded → ℕ → ℤ → ℕ → ℕ → Decoded
+afterSize a register offset size = signed a isReach (afterStride register offset size)
 
-abbrev afterOffset : tie.After-shared-slice-known → ℕ → ℤ → ℕ → Decoded
-afterOffset a register offset at = field (refused a) (numberAt (text a) at) isSize (afterSize a register offset)
+abbrev afterOffset : Asked Decoded → ℕ → ℤ → ℕ → Decoded
+afterOffset a register offset = number a isSize (afterSize a register offset)
 
-abbrev afterRegister : tie.After-shared-slice-known → ℕ → ℕ → Decoded
-afterRegister a register at = signedField (refused a) (signedAt (text a) at) isReach (afterOffset a register)
+abbrev afterRegister : Asked Decoded → ℕ → ℕ → Decoded
+afterRegister a register = signed a isReach (afterOffset a register)
 
 -- from a number in range back to the one before it
-abbrev begin : tie.Else1 → tie.After-shared-slice-known
-begin c = c .before .before .before .before .before
+abbrev begin : tie.Else1 → Asked Decoded
+begin c = let a = c .before .before .before .before .before .before .args in operation (a .s .now) (a .place) (a .c .at)
 
-one : (c : tie.Else1) → asked (begin c) ≡ afterRegister (begin c) (c .before .before .register .given .0 .0) (c .before .before .register .given .0 .1 .0 .at)
+one : (c : tie.Else1) → answer dimensionAt (begin c) ≡ afterRegister (begin c) (c .before .before .register .given .0 .0) (c .before .before .register .given .0 .1 .0 .at)
 unfolding dimensionAt
 one c = rw (sym (c .before .before .before .before .number .ensures) ∙ c .before .before .register .given .1, le-leb _ _ (c .if1 .left))
 
 abbrev to1 : tie.Else2 → tie.Else1
 to1 c = c .before .before .before .before .before .before
 
-two : (c : tie.Else2) → asked (begin (to1 c)) ≡ afterOffset (begin (to1 c)) ((to1 c) .before .before .register .given .0 .0) (c .before .before .before .offset .given .0 .0) (c .before .before .before .offset .given .0 .1 .0 .at)
+two : (c : tie.Else2) → answer dimensionAt (begin (to1 c)) ≡ afterOffset (begin (to1 c)) ((to1 c) .before .before .register .given .0 .0) (c .before .before .before .offset .given .0 .0) (c .before .before .before .offset .given .0 .1 .0 .at)
 two c = one (to1 c) ∙ rw (sym (c .before .before .before .before .before .signed .ensures) ∙ c .before .before .before .offset .given .1, signed-reach _ _ (sym (c .before .before .before .before .before .signed .ensures) ∙ c .before .before .before .offset .given .1) (c .before .in-reach .ensures) ∙ not-false _ (c .if2 .left))
 
 abbrev to2 : tie.Else3 → tie.Else2
 to2 c = c .before .before .before .before .before
 
-three : (c : tie.Else3) → asked (begin (to1 (to2 c))) ≡ afterSize (begin (to1 (to2 c))) ((to1 (to2 c)) .before .before .register .given .0 .0) ((to2 c) .before .before .before .offset .given .0 .0) (c .before .before .size .given .0 .0) (c .before .before .size .given .0 .1 .0 .at)
+three : (c : tie.Else3) → answer dimensionAt (begin (to1 (to2 c))) ≡ afterSize (begin (to1 (to2 c))) ((to1 (to2 c)) .before .before .register .given .0 .0) ((to2 c) .before .before .before .offset .given .0 .0) (c .before .before .size .given .0 .0) (c .before .before .size .given .0 .1 .0 .at)
 three c = two (to2 c) ∙ rw (sym (c .before .before .before .before .number2 .ensures) ∙ c .before .before .size .given .1, le-leb _ _ (c .if3 .left))
 
 abbrev to3 : tie.Else4 → tie.Else3
 to3 c = c .before .before .before .before .before .before
 
-four : (c : tie.Else4) → asked (begin (to1 (to2 (to3 c)))) ≡ afterStride (begin (to1 (to2 (to3 c)))) ((to1 (to2 (to3 c))) .before .before .register .given .0 .0) ((to2 (to3 c)) .before .before .before .offset .given .0 .0) ((to3 c) .before .before .size .given .0 .0) (c .before .before .before .stride .given .0 .0) (c .before .before .before .stride .given .0 .1 .0 .at)
+four : (c : tie.Else4) → answer dimensionAt (begin (to1 (to2 (to3 c)))) ≡ afterStride ((to1 (to2 (to3 c))) .before .before .register .given .0 .0) ((to2 (to3 c)) .before .before .before .offset .given .0 .0) ((to3 c) .before .before .size .given .0 .0) (c .before .before .before .stride .given .0 .0) (c .before .before .before .stride .given .0 .1 .0 .at)
 four c = three (to3 c) ∙ rw (sym (c .before .before .before .before .before .signed2 .ensures) ∙ c .before .before .before .stride .given .1, signed-reach _ _ (sym (c .before .before .before .before .before .signed2 .ensures) ∙ c .before .before .before .stride .given .1) (c .before .in-reach2 .ensures) ∙ not-false _ (c .if4 .left))
 
 number-requires : tie.Need-number-requires

@@ -1,31 +1,19 @@
 -- `operation::modifier_at` meets its contract: each number in range leads on to the next, as in `modifierAt`.
 use borrow.Author.Tests.{le-leb, lt-leb}
 use mathlib.Core.Path.{_≡_, sym, _∙_}
-use mathlib.Core.List.{List}
 use Prim.Native.Nat.{ℕ}
-use Rattle.codec.specs.Numbers.{numberAt}
 use Rattle.codec.specs.declared.operation.Decoded.{Decoded}
 use Rattle.codec.specs.declared.operation.Decoded.the-variants as decoded
-use Rattle.codec.specs.declared.refusal.Refusal.{Refusal}
-use Rattle.codec.specs.Operations.{field, upTo, isDisplacement, parameterCoded, behaviourCoded, modifierAt}
+use Rattle.codec.specs.Operations.{upTo, isDisplacement, parameterCoded, behaviourCoded, modifierAt}
 use Rattle.codec.specs.declared.operation.Operation.the-variants as op
+use Rattle.codec.proofs.Asked.{Asked, operation, answer, number}
 use borrow.Author.Needs.{needs}
 use Rattle.codec.proofs.operation.modifier_at.Statement.{statement}
 use Rattle.codec.proofs.operation.modifier_at.Tie as tie
 
--- where the function starts, what it is asked, and its refusals
-abbrev text : tie.After-shared-slice-known → List ℕ
-text a = a .before .args .s .now
-
-abbrev refused : tie.After-shared-slice-known → Refusal → Decoded
-refused a x = decoded.Refused x (a .before .args .place)
-
-abbrev asked : tie.After-shared-slice-known → Decoded
-asked a = modifierAt (text a) (refused a) (a .before .args .c .at)
-
 -- what each number in range leads on to
-abbrev afterDisplacement : tie.After-shared-slice-known → ℕ → ℕ → ℕ → ℕ → ℕ → ℕ → Decoded
-afterDisplacement a register target parameter behaviour displacement at =
+abbrev afterDisplacement : ℕ → ℕ → ℕ → ℕ → ℕ → ℕ → Decoded
+afterDisplacement register target parameter behaviour displacement at =
     decoded.Operation
     (op.Modifier
     (record {
@@ -37,50 +25,48 @@ afterDisplacement a register target parameter behaviour displacement at =
     }))
     (record { at = at })
 
-abbrev afterBehaviour : tie.After-shared-slice-known → ℕ → ℕ → ℕ → ℕ → ℕ → Decoded
-afterBehaviour a register target parameter behaviour at =
-    field (refused a) (numberAt (text a) at) isDisplacement (afterDisplacement a register target parameter behaviour)
+abbrev afterBehaviour : Asked Decoded → ℕ → ℕ → ℕ → ℕ → ℕ → Decoded
+afterBehaviour a register target parameter behaviour = number a isDisplacement (afterDisplacement register target parameter behaviour)
 
-abbrev afterParameter : tie.After-shared-slice-known → ℕ → ℕ → ℕ → ℕ → Decoded
-afterParameter a register target parameter at =
-    field (refused a) (numberAt (text a) at) (upTo 1) (afterBehaviour a register target parameter)
+abbrev afterParameter : Asked Decoded → ℕ → ℕ → ℕ → ℕ → Decoded
+afterParameter a register target parameter = number a (upTo 1) (afterBehaviour a register target parameter)
 
-abbrev afterTarget : tie.After-shared-slice-known → ℕ → ℕ → ℕ → Decoded
-afterTarget a register target at = field (refused a) (numberAt (text a) at) (upTo 2) (afterParameter a register target)
+abbrev afterTarget : Asked Decoded → ℕ → ℕ → ℕ → Decoded
+afterTarget a register target = number a (upTo 2) (afterParameter a register target)
 
-abbrev afterRegister : tie.After-shared-slice-known → ℕ → ℕ → Decoded
-afterRegister a register at = field (refused a) (numberAt (text a) at) (upTo 6) (afterTarget a register)
+abbrev afterRegister : Asked Decoded → ℕ → ℕ → Decoded
+afterRegister a register = number a (upTo 6) (afterTarget a register)
 
 -- from a number in range back to the one before it
-abbrev begin : tie.Else1 → tie.After-shared-slice-known
-begin c = c .before .before .before .before .before
+abbrev begin : tie.Else1 → Asked Decoded
+begin c = let a = c .before .before .before .before .before .before .args in operation (a .s .now) (a .place) (a .c .at)
 
-one : (c : tie.Else1) → asked (begin c) ≡ afterRegister (begin c) (c .before .before .register .given .0 .0) (c .before .before .register .given .0 .1 .0 .at)
+one : (c : tie.Else1) → answer modifierAt (begin c) ≡ afterRegister (begin c) (c .before .before .register .given .0 .0) (c .before .before .register .given .0 .1 .0 .at)
 unfolding modifierAt
 one c = rw (sym (c .before .before .before .before .number .ensures) ∙ c .before .before .register .given .1, le-leb _ _ (c .if1 .left))
 
 abbrev to1 : tie.Else2 → tie.Else1
 to1 c = c .before .before .before .before .before
 
-two : (c : tie.Else2) → asked (begin (to1 c)) ≡ afterTarget (begin (to1 c)) ((to1 c) .before .before .register .given .0 .0) (c .before .before .target .given .0 .0) (c .before .before .target .given .0 .1 .0 .at)
+two : (c : tie.Else2) → answer modifierAt (begin (to1 c)) ≡ afterTarget (begin (to1 c)) ((to1 c) .before .before .register .given .0 .0) (c .before .before .target .given .0 .0) (c .before .before .target .given .0 .1 .0 .at)
 two c = one (to1 c) ∙ rw (sym (c .before .before .before .before .number2 .ensures) ∙ c .before .before .target .given .1, le-leb _ _ (c .if2 .left))
 
 abbrev to2 : tie.Else3 → tie.Else2
 to2 c = c .before .before .before .before .before
 
-three : (c : tie.Else3) → asked (begin (to1 (to2 c))) ≡ afterParameter (begin (to1 (to2 c))) ((to1 (to2 c)) .before .before .register .given .0 .0) ((to2 c) .before .before .target .given .0 .0) (c .before .before .parameter .given .0 .0) (c .before .before .parameter .given .0 .1 .0 .at)
+three : (c : tie.Else3) → answer modifierAt (begin (to1 (to2 c))) ≡ afterParameter (begin (to1 (to2 c))) ((to1 (to2 c)) .before .before .register .given .0 .0) ((to2 c) .before .before .target .given .0 .0) (c .before .before .parameter .given .0 .0) (c .before .before .parameter .given .0 .1 .0 .at)
 three c = two (to2 c) ∙ rw (sym (c .before .before .before .before .number3 .ensures) ∙ c .before .before .parameter .given .1, le-leb _ _ (c .if3 .left))
 
 abbrev to3 : tie.Else4 → tie.Else3
 to3 c = c .before .before .before .before .before
 
-four : (c : tie.Else4) → asked (begin (to1 (to2 (to3 c)))) ≡ afterBehaviour (begin (to1 (to2 (to3 c)))) ((to1 (to2 (to3 c))) .before .before .register .given .0 .0) ((to2 (to3 c)) .before .before .target .given .0 .0) ((to3 c) .before .before .parameter .given .0 .0) (c .before .before .behaviour .given .0 .0) (c .before .before .behaviour .given .0 .1 .0 .at)
+four : (c : tie.Else4) → answer modifierAt (begin (to1 (to2 (to3 c)))) ≡ afterBehaviour (begin (to1 (to2 (to3 c)))) ((to1 (to2 (to3 c))) .before .before .register .given .0 .0) ((to2 (to3 c)) .before .before .target .given .0 .0) ((to3 c) .before .before .parameter .given .0 .0) (c .before .before .behaviour .given .0 .0) (c .before .before .behaviour .given .0 .1 .0 .at)
 four c = three (to3 c) ∙ rw (sym (c .before .before .before .before .number4 .ensures) ∙ c .before .before .behaviour .given .1, le-leb _ _ (c .if4 .left))
 
 abbrev to4 : tie.Else5 → tie.Else4
 to4 c = c .before .before .before .before .before
 
-five : (c : tie.Else5) → asked (begin (to1 (to2 (to3 (to4 c))))) ≡ afterDisplacement (begin (to1 (to2 (to3 (to4 c))))) ((to1 (to2 (to3 (to4 c)))) .before .before .register .given .0 .0) ((to2 (to3 (to4 c))) .before .before .target .given .0 .0) ((to3 (to4 c)) .before .before .parameter .given .0 .0) ((to4 c) .before .before .behaviour .given .0 .0) (c .before .before .displacement .given .0 .0) (c .before .before .displacement .given .0 .1 .0 .at)
+five : (c : tie.Else5) → answer modifierAt (begin (to1 (to2 (to3 (to4 c))))) ≡ afterDisplacement ((to1 (to2 (to3 (to4 c)))) .before .before .register .given .0 .0) ((to2 (to3 (to4 c))) .before .before .target .given .0 .0) ((to3 (to4 c)) .before .before .parameter .given .0 .0) ((to4 c) .before .before .behaviour .given .0 .0) (c .before .before .displacement .given .0 .0) (c .before .before .displacement .given .0 .1 .0 .at)
 five c = four (to4 c) ∙ rw (sym (c .before .before .before .before .number5 .ensures) ∙ c .before .before .displacement .given .1, le-leb _ _ (c .if5 .left))
 
 number-requires : tie.Need-number-requires

@@ -1,42 +1,37 @@
 -- `operation::open_at` meets its contract: both numbers are read, then the word is taken apart, as in `openAt`; a word that was read is below 2^32.
 use borrow.Author.Tests.{le-leb, lt-leb}
 use mathlib.Core.Path.{_≡_, sym, _∙_}
-use mathlib.Core.List.{List}
 use Prim.Native.Nat.{ℕ}
-use Rattle.codec.specs.Numbers.{numberAt}
 use Rattle.codec.specs.declared.operation.Decoded.{Decoded}
 use Rattle.codec.specs.declared.operation.Decoded.the-variants as decoded
-use Rattle.codec.specs.declared.refusal.Refusal.{Refusal}
 use Rattle.codec.specs.NumberLaws.{number-below}
 use Rattle.codec.specs.Headers.{headerOf}
-use Rattle.codec.specs.Operations.{field, isBase, openOf, openAt}
+use Rattle.codec.specs.Operations.{isBase, openOf, openAt}
+use Rattle.codec.proofs.Asked.{Asked, operation, answer, number}
 use borrow.Author.Needs.{needs}
 use Rattle.codec.proofs.operation.open_at.Statement.{statement}
 use Rattle.codec.proofs.operation.open_at.Tie as tie
 
--- where the function starts, what it is asked, and its refusals
-abbrev text : tie.After-shared-slice-known → List ℕ
-text a = a .before .args .s .now
-
-abbrev refused : tie.After-shared-slice-known → Refusal → Decoded
-refused a x = decoded.Refused x (a .before .args .place)
-
-abbrev asked : tie.After-shared-slice-known → Decoded
-asked a = openAt (text a) (refused a) (a .before .args .c .at)
-
 -- the word leads on to the base, and a base in range to what the word says
-abbrev afterBase : tie.After-shared-slice-known → ℕ → ℕ → ℕ → Decoded
-afterBase a word base at = openOf (refused a) (headerOf word) base at
+abbrev afterBase : Asked Decoded → ℕ → ℕ → ℕ → Decoded
+afterBase a word = openOf (a .refused) (headerOf word)
 
-abbrev afterWord : tie.After-shared-slice-known → ℕ → ℕ → Decoded
-afterWord a word at = field (refused a) (numberAt (text a) at) isBase (afterBase a word)
+abbrev afterWord : Asked Decoded → ℕ → ℕ → Decoded
+afterWord a word = number a isBase (afterBase a word)
 
-one : (c : tie.After-known-told) → asked (c .before .before .before .before) ≡ afterWord (c .before .before .before .before) (c .before .word .given .0 .0) (c .before .word .given .0 .1 .0 .at)
+-- from a number back to the one before it
+abbrev begin : tie.After-known-told → Asked Decoded
+begin c = let a = c .before .before .before .before .before .args in operation (a .s .now) (a .place) (a .c .at)
+
+one : (c : tie.After-known-told) → answer openAt (begin c) ≡ afterWord (begin c) (c .before .word .given .0 .0) (c .before .word .given .0 .1 .0 .at)
 unfolding openAt
 one c = rw (sym (c .before .before .before .number .ensures) ∙ c .before .word .given .1)
 
-two : (c : tie.Else1) → asked (c .before .before .before .before .before .before .before .before .before) ≡ afterBase (c .before .before .before .before .before .before .before .before .before) (c .before .before .before .before .before .before .word .given .0 .0) (c .before .before .base .given .0 .0) (c .before .before .base .given .0 .1 .0 .at)
-two c = one (c .before .before .before .before .before) ∙ rw (sym (c .before .before .before .before .number2 .ensures) ∙ c .before .before .base .given .1, le-leb _ _ (c .if1 .left))
+abbrev to1 : tie.Else1 → tie.After-known-told
+to1 c = c .before .before .before .before .before
+
+two : (c : tie.Else1) → answer openAt (begin (to1 c)) ≡ afterBase (begin (to1 c)) ((to1 c) .before .word .given .0 .0) (c .before .before .base .given .0 .0) (c .before .before .base .given .0 .1 .0 .at)
+two c = one (to1 c) ∙ rw (sym (c .before .before .before .before .number2 .ensures) ∙ c .before .before .base .given .1, le-leb _ _ (c .if1 .left))
 
 number-requires : tie.Need-number-requires
 number-requires c κs = search needs

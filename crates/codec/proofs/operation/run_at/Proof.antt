@@ -1,34 +1,25 @@
 -- `operation::run_at` meets its contract: a loop register in range leads on to the count, as in `runAt`.
 use borrow.Author.Tests.{le-leb, lt-leb}
 use mathlib.Core.Path.{_≡_, sym, _∙_}
-use mathlib.Core.List.{List}
 use Prim.Native.Nat.{ℕ}
-use Rattle.codec.specs.Numbers.{numberAt}
 use Rattle.codec.specs.declared.operation.Decoded.{Decoded}
 use Rattle.codec.specs.declared.operation.Decoded.the-variants as decoded
-use Rattle.codec.specs.declared.refusal.Refusal.{Refusal}
-use Rattle.codec.specs.Operations.{field, isCount, runAt}
+use Rattle.codec.specs.Operations.{isCount, runAt}
 use Rattle.codec.specs.declared.operation.Operation.the-variants as op
+use Rattle.codec.proofs.Asked.{Asked, operation, answer, number}
 use borrow.Author.Needs.{needs}
 use Rattle.codec.proofs.operation.run_at.Statement.{statement}
 use Rattle.codec.proofs.operation.run_at.Tie as tie
 
--- where the function starts, what it is asked, and its refusals
-abbrev text : tie.After-shared-slice-known → List ℕ
-text a = a .before .args .s .now
-
-abbrev refused : tie.After-shared-slice-known → Refusal → Decoded
-refused a x = decoded.Refused x (a .before .args .place)
-
-abbrev asked : tie.After-shared-slice-known → Decoded
-asked a = runAt (text a) (refused a) (a .before .args .c .at)
-
 -- a loop register in range leads on to the count
-abbrev afterRegister : tie.After-shared-slice-known → ℕ → ℕ → Decoded
-afterRegister a register at =
-    field (refused a) (numberAt (text a) at) isCount λ count at. decoded.Operation (op.Run register count) (record { at = at })
+abbrev afterRegister : Asked Decoded → ℕ → ℕ → Decoded
+afterRegister a register = number a isCount λ count at. decoded.Operation (op.Run register count) (record { at = at })
 
-one : (c : tie.Else1) → asked (c .before .before .before .before .before) ≡ afterRegister (c .before .before .before .before .before) (c .before .before .looped .given .0 .0) (c .before .before .looped .given .0 .1 .0 .at)
+-- from a loop register in range back to the start
+abbrev begin : tie.Else1 → Asked Decoded
+begin c = let a = c .before .before .before .before .before .before .args in operation (a .s .now) (a .place) (a .c .at)
+
+one : (c : tie.Else1) → answer runAt (begin c) ≡ afterRegister (begin c) (c .before .before .looped .given .0 .0) (c .before .before .looped .given .0 .1 .0 .at)
 unfolding runAt
 one c = rw (sym (c .before .before .before .before .number .ensures) ∙ c .before .before .looped .given .1, le-leb _ _ (c .if1 .left))
 
