@@ -2,6 +2,7 @@
 --
 --   widened, shifted, far         sheets: a width; offset and stride modifiers; a modifier two dimensions out
 --   operated, between             the sheet of "Loop nests" with another operation, and memory for it
+--   ran, outcome                  the run of a sheet; its memory
 --   patterns, operations          addresses; what each operation gives
 --   contents-left                 what registers hold
 --   resized, limits               low, high and product at their limits
@@ -23,7 +24,7 @@ use Rattle.engine.specs.Calculate.{given, results, allInside, refusalOf,
 use Rattle.engine.specs.Checks.{firstOf}
 use Rattle.engine.specs.Registers.{nextChunk, movedBy, toCome}
 use Rattle.engine.specs.Configure.{whyNot, configured}
-use Rattle.engine.specs.Run.{pass, repeat}
+use Rattle.engine.specs.Run.{Progress, pass, repeat}
 use Rattle.engine.specs.Sheets.{bodyAt, names, operationsFrom, run}
 use Rattle.engine.specs.Table.{done, refusal, answerOf, answer, register, prepared, addresses, copies, grown, triangle, words, twice, bytes}
 use Rattle.engine.specs.declared.register.Register.{Register}
@@ -56,9 +57,18 @@ operated k =
 unfoldable pub between : List ℕ
 between = (200 ∷ 0 ∷ 0x80 ∷ []) ++ replicate 5 7 ++ (100 ∷ 1 ∷ 1 ∷ []) ++ replicate 8 7
 
+-- the run of a sheet; to unfold it is to unfold all that it computes with
+unfoldable pub ran : ℕ → List ℕ → List ℕ → Progress
+unfolding groupsAt numberAt signedOf headerSaid headerOf openAt dimensionAt modifierAt endAt runAt operationAt calculationAt
+    sizeAt added span loops elements passes withElements groups leftAfter chunkOf differ height only highs lowOrHighFrom product
+    addressUpTo valueAt littleEndian stored lanesFrom joined holding lanewise
+    given results allInside refusalOf readFrom writtenTo memoryAfter effect
+    firstOf nextChunk movedBy toCome whyNot configured pass repeat bodyAt names operationsFrom
+ran vl s memory = run vl s memory
+
 -- its memory afterwards, from byte 16 on
 unfoldable pub outcome : ℕ → List ℕ
-outcome k = drop 16 (run 8 (operated k) between .world .memory)
+outcome k = drop 16 (ran 8 (operated k) between .world .memory)
 
 -- ---- rows
 
@@ -87,31 +97,21 @@ pub operations :
     × (outcome 5 ≡ 172 ∷ 1 ∷ 0x81 ∷ [])
     × (outcome 6 ≡ 200 ∷ 0 ∷ 0x80 ∷ [])
     × (outcome 7 ≡ 100 ∷ 1 ∷ 1 ∷ [])
-unfolding operated between outcome
-    groupsAt numberAt signedOf headerSaid headerOf openAt dimensionAt modifierAt endAt runAt operationAt calculationAt
-    sizeAt added span loops elements passes withElements groups leftAfter chunkOf differ height only highs lowOrHighFrom product
-    addressUpTo valueAt littleEndian stored lanesFrom joined holding lanewise
-    given results allInside refusalOf readFrom writtenTo memoryAfter effect
-    firstOf nextChunk movedBy toCome whyNot configured pass repeat bodyAt names operationsFrom
+unfolding operated between outcome ran
 operations = (refl, refl, refl, refl, refl, refl, refl)
 
 -- the bytes of registers: of an open load before it moves; of a store that has written, "stays so"; of a plain destination that took 8
 -- lanes and then 4, zeros behind; of a finished load, its last chunk; of a fresh one. Registers 0 to 3 stand in this order
 pub contents-left :
     (register 1 (prepared triangle) .lanes ≡ replicate 64 0)
-    × (register 3 (run 8 (operated 1) between .world .machine) .lanes ≡ replicate 64 0)
-    × (register 3 (run 8 (operated 1) between .world .machine) .valid ≡ 0)
-    × (register 2 (run 8 twice (bytes 0 20) .world .machine) .lanes ≡ bytes 16 4 ++ replicate 60 0)
-    × (register 1 (run 8 twice (bytes 0 20) .world .machine) .lanes ≡ bytes 16 4 ++ replicate 60 0)
-    × (register 31 (run 8 twice (bytes 0 20) .world .machine) .lanes ≡ replicate 64 0)
-    × (map (λ (r : Register). r .valid) (take 4 (run 8 twice (bytes 0 20) .world .machine .registers)) ≡ 0 ∷ 4 ∷ 4 ∷ 8 ∷ [])
-    × (register 2 (run 16 (words ++ copies) (bytes 0 40) .world .machine) .lanes ≡ (0x24 ∷ 0x25 ∷ 0x26 ∷ 0x27 ∷ []) ++ replicate 60 0)
-unfolding operated between register prepared copies grown triangle words twice bytes
-    groupsAt numberAt signedOf headerSaid headerOf openAt dimensionAt modifierAt endAt runAt operationAt calculationAt
-    sizeAt added span loops elements passes withElements groups leftAfter chunkOf differ height only highs lowOrHighFrom product
-    addressUpTo valueAt littleEndian stored lanesFrom joined holding lanewise
-    given results allInside refusalOf readFrom writtenTo memoryAfter effect
-    firstOf nextChunk movedBy toCome whyNot configured pass repeat bodyAt names operationsFrom
+    × (register 3 (ran 8 (operated 1) between .world .machine) .lanes ≡ replicate 64 0)
+    × (register 3 (ran 8 (operated 1) between .world .machine) .valid ≡ 0)
+    × (register 2 (ran 8 twice (bytes 0 20) .world .machine) .lanes ≡ bytes 16 4 ++ replicate 60 0)
+    × (register 1 (ran 8 twice (bytes 0 20) .world .machine) .lanes ≡ bytes 16 4 ++ replicate 60 0)
+    × (register 31 (ran 8 twice (bytes 0 20) .world .machine) .lanes ≡ replicate 64 0)
+    × (map (λ (r : Register). r .valid) (take 4 (ran 8 twice (bytes 0 20) .world .machine .registers)) ≡ 0 ∷ 4 ∷ 4 ∷ 8 ∷ [])
+    × (register 2 (ran 16 (words ++ copies) (bytes 0 40) .world .machine) .lanes ≡ (0x24 ∷ 0x25 ∷ 0x26 ∷ 0x27 ∷ []) ++ replicate 60 0)
+unfolding operated between register prepared copies grown triangle words twice bytes ran
 contents-left = (refl, refl, refl, refl, refl, refl, refl, refl)
 
 -- bytes: dimension 1 of a size, dimension 2 of n rows, size modifiers of dimension 1; end
