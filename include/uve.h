@@ -32,8 +32,10 @@ extern "C" {
 /* Runs a sheet on a memory, at a vector length in bytes. Answers the refusal's number, or 0.
  *
  * The numbers of the report:
- *   0 to 7      number, place, passes, calculations (done: number 0, place 0); then four that stay 0 for now: lane and operand of a
- *               refusal 14, headers with a cache level, iterations walked
+ *   0 to 3      number, place, passes, calculations (done: number 0, place 0)
+ *   4 and 5     lane and operand of a refusal 14: the first lane outside, counted from 0, and 0 for the first source, 1 for the
+ *               second, 2 for the destination; both 0 with any other answer
+ *   6 and 7     two that stay 0 for now: headers with a cache level, iterations walked
  *   8 to 455    for each of the 32 registers 14 of them, those of register i from number 8 + 14 i on: state (0 plain, 1 being
  *               configured, 2 open, 3 finished), kind (0 none, 1 load, 2 store), width in bytes, valid lanes, dimensions, flags (dimension
  *               1 in the lowest bit), and the 64 lane bytes as 8 numbers, so that they stand in the report in their order.

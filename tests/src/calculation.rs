@@ -14,14 +14,46 @@ pub struct Calculation {
     pub second: usize,
 }
 
-#[derive(Clone, Copy, PartialEq, Eq)]
-enum Role {
+/// The operand of a calculation that a register is named as.
+#[derive(Clone, Copy, PartialEq, Eq, Debug)]
+pub enum Role {
     First,
     Second,
     Destination,
 }
 
+/// What 14 carries: the first lane outside memory, counted from 0, and the operand that it is a lane of.
+#[derive(Clone, Copy, PartialEq, Eq, Debug)]
+pub struct Outside {
+    pub lane: usize,
+    pub role: Role,
+    /// Of the lane's element. The report does not have it; the words of program `run` do.
+    pub address: i64,
+}
+
+/// Why a calculation is refused.
+#[derive(Clone, Copy, PartialEq, Eq, Debug)]
+pub struct Fault {
+    pub clause: Clause,
+    pub outside: Option<Outside>,
+}
+
+impl From<Clause> for Fault {
+    fn from(clause: Clause) -> Fault {
+        Fault { clause, outside: None }
+    }
+}
+
 impl Role {
+    /// Its number in the report.
+    pub fn number(self) -> u64 {
+        match self {
+            Role::First => 0,
+            Role::Second => 1,
+            Role::Destination => 2,
+        }
+    }
+
     fn pick(self, first: Clause, second: Clause, destination: Clause) -> Clause {
         match self {
             Role::First => first,
@@ -56,7 +88,7 @@ pub fn value(bytes: &[u8]) -> u64 {
 
 impl Machine<'_> {
     /// Carries out a calculation, or refuses it and changes nothing.
-    pub fn calculate(&mut self, c: &Calculation) -> Result<(), Clause> {
+    pub fn calculate(&mut self, c: &Calculation) -> Result<(), Fault> {
         self.usable(c.first, Role::First)?;
         self.usable(c.second, Role::Second)?;
         self.usable(c.destination, Role::Destination)?;
@@ -68,9 +100,10 @@ impl Machine<'_> {
         let n = self.lanes_of(c.first);
         let width = self.registers[c.first].width;
         let written: Vec<i64> = self.addresses(c.destination).into_iter().take(n).collect();
-        self.inside(&self.addresses(c.first), width, Role::First)?;
-        self.inside(&self.addresses(c.second), width, Role::Second)?;
-        self.inside(&written, width, Role::Destination)?;
+        if let Err(fault) = self.inside(c, &written) {
+            self.note_outside(c, &written);
+            return Err(fault);
+        }
 
         let first = self.values(c.first);
         let second = self.values(c.second);
@@ -151,7 +184,7 @@ impl Machine<'_> {
     }
 
     /// The addresses of an open stream's next chunk; none for a plain register.
-    fn addresses(&self, register: usize) -> Vec<i64> {
+    pub fn addresses(&self, register: usize) -> Vec<i64> {
         let register = &self.registers[register];
         match register.state {
             State::Open => register.stream().chunk(self.vl / register.width).iter().map(|element| element.address).collect(),
@@ -159,17 +192,33 @@ impl Machine<'_> {
         }
     }
 
-    /// 14 for one role.
-    fn inside(&self, addresses: &[i64], width: usize, role: Role) -> Result<(), Clause> {
-        for &address in addresses {
-            if address < 0 {
-                return Err(role.pick(Clause::FirstBelow, Clause::SecondBelow, Clause::DestinationBelow));
-            }
-            if address + width as i64 > self.memory.len() as i64 {
-                return Err(role.pick(Clause::FirstAbove, Clause::SecondAbove, Clause::DestinationAbove));
+    /// 14, of the elements that would move: those of both sources in turn, then those to be written.
+    fn inside(&self, c: &Calculation, written: &[i64]) -> Result<(), Fault> {
+        let width = self.registers[c.first].width;
+        self.all_inside(&self.addresses(c.first), width, Role::First)?;
+        self.all_inside(&self.addresses(c.second), width, Role::Second)?;
+        self.all_inside(written, width, Role::Destination)
+    }
+
+    /// 14 for one role, with the first lane outside.
+    fn all_inside(&self, addresses: &[i64], width: usize, role: Role) -> Result<(), Fault> {
+        for (lane, &address) in addresses.iter().enumerate() {
+            if !self.is_inside(address, width) {
+                let clause = match (lane, address < 0) {
+                    (0, true) => role.pick(Clause::FirstLane0Below, Clause::SecondLane0Below, Clause::DestinationLane0Below),
+                    (0, false) => role.pick(Clause::FirstLane0Above, Clause::SecondLane0Above, Clause::DestinationLane0Above),
+                    (_, true) => role.pick(Clause::FirstLaneBelow, Clause::SecondLaneBelow, Clause::DestinationLaneBelow),
+                    (_, false) => role.pick(Clause::FirstLaneAbove, Clause::SecondLaneAbove, Clause::DestinationLaneAbove),
+                };
+                return Err(Fault { clause, outside: Some(Outside { lane, role, address }) });
             }
         }
         Ok(())
+    }
+
+    /// Whether an element lies inside memory.
+    pub fn is_inside(&self, address: i64, width: usize) -> bool {
+        address >= 0 && address + width as i64 <= self.memory.len() as i64
     }
 
     /// The lanes that a source gives: those that memory holds for an open stream, its own for a plain register.

@@ -1,5 +1,5 @@
-//! What is counted. A clause is one way to be refused; the model says which one it was. An event is something that a completed
-//! calculation or a walk did. A test run that never saw a clause or an event fails.
+//! What is counted. A clause is one way to be refused; the model says which one it was. An event is something that a calculation or a
+//! walk did. A test run that never saw a clause or an event fails.
 
 use crate::numbers::NoNumber;
 
@@ -143,12 +143,18 @@ cases!(Clause in u64 {
         LanesOfStore "lanes exceed the store chunk",
     }
     14 {
-        FirstBelow "first source below memory",
-        FirstAbove "first source above memory",
-        SecondBelow "second source below memory",
-        SecondAbove "second source above memory",
-        DestinationBelow "destination below memory",
-        DestinationAbove "destination above memory",
+        FirstLane0Below "first source: lane 0 below memory",
+        FirstLane0Above "first source: lane 0 above memory",
+        FirstLaneBelow "first source: a lane above 0 is the first outside, below memory",
+        FirstLaneAbove "first source: a lane above 0 is the first outside, above memory",
+        SecondLane0Below "second source: lane 0 below memory",
+        SecondLane0Above "second source: lane 0 above memory",
+        SecondLaneBelow "second source: a lane above 0 is the first outside, below memory",
+        SecondLaneAbove "second source: a lane above 0 is the first outside, above memory",
+        DestinationLane0Below "destination: lane 0 below memory",
+        DestinationLane0Above "destination: lane 0 above memory",
+        DestinationLaneBelow "destination: a lane above 0 is the first outside, below memory",
+        DestinationLaneAbove "destination: a lane above 0 is the first outside, above memory",
     }
     15 {
         VectorLength "vector length not allowed",
@@ -194,6 +200,14 @@ cases!(Event in &'static str {
         StoreNone "a store of no lanes",
         StoreOverlaps "a store onto bytes read in the same calculation",
         StoreTwice "a store of two lanes onto one byte",
+        StoreBehindOutside "a store of some lanes, with an element outside behind them in its chunk",
+        StoreNoneOutside "a store of no lanes, with an element outside in its chunk",
+    }
+    "outside" {
+        TwiceOutside "a load stream named twice, outside",
+        BothOutside "both sources outside, the second in a lower lane",
+        SourceAndStoreOutside "a source and the store outside, the store in a lower lane",
+        InsideAgain "a lane outside, and one behind it inside",
     }
     "chunks" {
         ChunkFull "a chunk of all lanes",

@@ -1,9 +1,11 @@
 //! The examples of document 01, worked out by hand from its text.
 
+use crate::calculation::{Outside, Role};
 use crate::clauses::Clause;
 use crate::model::{run, Answer, Refusal, State};
 use crate::nest;
 use crate::numbers::{put, unsigned};
+use crate::report::report;
 use crate::stream::{Dimension, Kind, Modifier, Parameter, Stream};
 
 fn sheet(numbers: &[u64]) -> Vec<u8> {
@@ -33,6 +35,11 @@ fn ran(numbers: &[u64], vl: u64, memory: &mut [u8]) -> Answer {
 
 fn refused(answer: &Answer) -> Option<(u64, usize)> {
     answer.refusal.map(|refusal| (refusal.clause.number(), refusal.place))
+}
+
+/// Lane, role and address of a refusal 14.
+fn outside(answer: &Answer) -> Option<(usize, Role, i64)> {
+    answer.refusal?.outside.map(|Outside { lane, role, address }| (lane, role, address))
 }
 
 fn flags(answer: &Answer, register: usize) -> Vec<bool> {
@@ -68,6 +75,7 @@ fn triangle_chunks() {
 
     let cut = ran(&[triangle(0), run.to_vec()].concat(), 8, &mut counting(27));
     assert_eq!((refused(&cut), cut.passes, cut.calculations), (Some((14, 26)), 1, 1));
+    assert_eq!(outside(&cut), Some((1, Role::First, 27)));
     assert_eq!((cut.registers[1].valid, &cut.registers[1].bytes[..8]), (8, &[0, 8, 9, 16, 17, 18, 24, 25][..]));
     assert_eq!(flags(&cut, 1), [false, false]);
 }
@@ -100,7 +108,7 @@ fn shrinking_rows() {
     assert_eq!(stream.elements.len(), 10);
 
     let six = rows(6);
-    assert_eq!(six.refusal, Some(Refusal { clause: Clause::Low, place: 21 }));
+    assert_eq!(six.refusal, Some(Refusal::at(21, Clause::Low)));
     assert_eq!(six.registers[1].state, State::Configuring);
 }
 
@@ -139,6 +147,98 @@ fn words_and_memory_of_40() {
     assert_eq!((refused(&short), short.passes, short.calculations), (Some((14, 15)), 1, 1));
     assert_eq!(short.registers[2].valid, 4);
     assert_eq!(short.registers[2].bytes[..8], [4, 5, 6, 7, 12, 13, 14, 15]);
+    assert_eq!(outside(&short), Some((0, Role::First, 36)));
+    assert_eq!(report(&short)[..8], [14, 15, 1, 1, 0, 0, 0, 0]);
+}
+
+/// Bytes: register 3 takes the sums of registers 1 and 2, each a stream with a base, a size and a stride.
+fn added(streams: [(u64, u64, i64); 3]) -> Vec<u64> {
+    let mut numbers = Vec::new();
+    for (register, (base, size, stride)) in (1..).zip(streams) {
+        let kind = if register < 3 { Kind::Load } else { Kind::Store };
+        numbers.extend([1, word(kind, 0, register, 0), base, 2, register, 0, size, unsigned(stride), 4, register]);
+    }
+    numbers.extend([5, 1, 1, 1, 3, 1, 2]);
+    numbers
+}
+
+/// A memory too short for one of the three: the lane in its chunk, counted from 0, and the address.
+#[test]
+fn each_operand_outside() {
+    let near = (0, 12, 1);
+    for (streams, memory, passes, expected) in [
+        // The first chunk has bytes 20 to 27, the second 28 to 31.
+        ([(20, 12, 1), near, near], 25, 0, (5, Role::First, 25)),
+        ([near, (20, 12, 1), near], 20, 0, (0, Role::Second, 20)),
+        ([near, (20, 12, 1), near], 31, 1, (3, Role::Second, 31)),
+        ([near, near, (20, 12, 1)], 28, 1, (0, Role::Destination, 28)),
+        ([near, near, (20, 12, 1)], 27, 0, (7, Role::Destination, 27)),
+        // Downward: 9 to 2, then 1, 0, -1.
+        ([(9, 12, -1), near, near], 32, 1, (2, Role::First, -1)),
+        ([near, (9, 12, -1), near], 32, 1, (2, Role::Second, -1)),
+        ([near, near, (9, 12, -1)], 32, 1, (2, Role::Destination, -1)),
+    ] {
+        let answer = ran(&added(streams), 8, &mut counting(memory));
+        let (lane, role, _) = expected;
+        assert_eq!((outside(&answer), answer.passes), (Some(expected), passes), "{streams:?}");
+        let place = sheet(&added(streams)).len() as u64 - 4;
+        assert_eq!(report(&answer)[..8], [14, place, passes, passes, lane as u64, role.number(), 0, 0]);
+    }
+}
+
+/// First source, second source, destination in turn: the first that is outside counts, in whatever lane; then its lowest lane.
+#[test]
+fn more_than_one_outside() {
+    let (near, middle, far) = ((0, 8, 1), (9, 8, 1), (12, 8, 1));
+    for (streams, expected) in [
+        ([middle, far, far], (7, Role::First, 16)),
+        ([near, middle, far], (7, Role::Second, 16)),
+        ([near, near, far], (4, Role::Destination, 16)),
+        // 3, 13, 23 and so on: every lane from 2 on is outside. Then 13, 9, 5, 1 and, from lane 4 on, below 0.
+        ([(3, 8, 10), far, near], (2, Role::First, 23)),
+        ([(13, 8, -4), near, far], (4, Role::First, -3)),
+    ] {
+        assert_eq!(outside(&ran(&added(streams), 8, &mut counting(16))), Some(expected), "{streams:?}");
+    }
+    // Rows of 3 whose outer loop comes back: 14, 15, 16, then 0, 1, 2. Lane 2 alone is outside.
+    let back = [1, word(Kind::Load, 0, 1, 0), 14, 2, 1, 0, 3, unsigned(1), 2, 1, 0, 2, unsigned(-14), 4, 1, 5, 1, 1, 0, 4, 1, 1];
+    assert_eq!(outside(&ran(&back, 8, &mut counting(16))), Some((2, Role::First, 16)));
+}
+
+/// Named as both sources, a stream is the first.
+#[test]
+fn named_twice_outside() {
+    let numbers = [1, word(Kind::Load, 0, 1, 0), 10, 2, 1, 0, 8, unsigned(1), 4, 1, 5, 1, 1, 1, 4, 1, 1];
+    let answer = ran(&numbers, 8, &mut counting(16));
+    assert_eq!((outside(&answer), &report(&answer)[4..6]), (Some((6, Role::First, 16)), &[6, 0][..]));
+}
+
+/// A store of 3 lanes whose chunk of 8 has elements outside behind them; the next chunk begins there.
+#[test]
+fn outside_behind_the_lanes_of_a_store() {
+    // Rows of 3, 4 apart; the store goes on without a gap, from byte 13 to 18.
+    let rows = [1, word(Kind::Load, 0, 1, 1), 0, 2, 1, 0, 3, unsigned(1), 2, 1, 0, 2, unsigned(4), 4, 1];
+    let store = [1, word(Kind::Store, 0, 3, 0), 13, 2, 3, 0, 20, unsigned(1), 4, 3, 5, 1, 1, 0, 3, 1, 1];
+    let numbers = [&rows[..], &store].concat();
+    for (memory, passes, expected) in [(19, 2, None), (18, 1, Some((2, Role::Destination, 18))), (16, 1, Some((0, Role::Destination, 16)))]
+    {
+        let answer = ran(&numbers, 8, &mut counting(memory));
+        assert_eq!((outside(&answer), answer.passes), (expected, passes));
+    }
+    // A store of no lanes looks at no element.
+    let none = [1, word(Kind::Load, 0, 1, 0), 0, 2, 1, 0, 1, 0, 4, 1, 1, word(Kind::Store, 0, 3, 0), 99, 2, 3, 0, 9, 0, 4, 3];
+    let answer = ran(&[&none[..], &[5, 1, 2, 0, 3, 5, 5, 0, 4, 1, 1]].concat(), 8, &mut counting(16));
+    assert_eq!((refused(&answer), answer.passes, answer.calculations), (None, 1, 2));
+}
+
+/// No other answer has a lane or an operand: lanes that differ come before a lane outside.
+#[test]
+fn only_14_names_a_lane() {
+    let near = (0, 8, 1);
+    for (streams, number) in [([near, near, near], 0), ([(99, 8, 1), (0, 7, 1), near], 13), ([near, (99, 8, 1), (99, 7, 1)], 13)] {
+        let answer = ran(&added(streams), 8, &mut counting(16));
+        assert_eq!((report(&answer)[0], &report(&answer)[4..8], outside(&answer)), (number, &[0; 4][..], None));
+    }
 }
 
 #[test]
@@ -182,12 +282,12 @@ fn header_bits() {
 #[test]
 fn lengths() {
     for vl in [0, 7, 9, 12, 65, 72, u64::MAX] {
-        assert_eq!(ran(&[77], vl, &mut []).refusal, Some(Refusal { clause: Clause::VectorLength, place: 0 }));
+        assert_eq!(ran(&[77], vl, &mut []).refusal, Some(Refusal::at(0, Clause::VectorLength)));
     }
     for vl in (8..=64).step_by(8) {
         assert_eq!(refused(&ran(&[], vl, &mut vec![0; 65_536])), None);
     }
-    assert_eq!(ran(&[77], 8, &mut vec![0; 65_537]).refusal, Some(Refusal { clause: Clause::MemoryLength, place: 0 }));
+    assert_eq!(ran(&[77], 8, &mut vec![0; 65_537]).refusal, Some(Refusal::at(0, Clause::MemoryLength)));
 }
 
 /// The loop register named in two calculations of one body: 20 bytes, lanes of 8; it finishes in the second pass.

@@ -1,6 +1,6 @@
-//! Document 01's engine, written from its text alone, to be compared with the proved one.
+//! Document 01's engine with the requests of document 02 that have landed, written from their text alone, to be compared with the proved one.
 
-use crate::calculation::Calculation;
+use crate::calculation::{Calculation, Fault, Outside};
 use crate::clauses::{Clause, Event, Seen};
 use crate::numbers;
 use crate::stream::{Dimension, Kind, Modifier, Parameter, Stream};
@@ -45,6 +45,15 @@ impl Register {
 pub struct Refusal {
     pub clause: Clause,
     pub place: usize,
+    /// What 14 carries; no other refusal does.
+    pub outside: Option<Outside>,
+}
+
+impl Refusal {
+    /// A refusal other than 14.
+    pub fn at(place: usize, clause: Clause) -> Refusal {
+        Refusal { clause, place, outside: None }
+    }
 }
 
 /// What a sheet comes to, beside the memory.
@@ -71,9 +80,9 @@ pub fn run(sheet: &[u8], vl: u64, memory: &mut [u8]) -> Answer {
     let mut machine =
         Machine { vl: vl as usize, memory, registers: vec![Register::fresh(); 32], passes: 0, calculations: 0, seen: Seen::default() };
     let done = if !(8..=64).contains(&vl) || vl % 8 != 0 {
-        Err(Refusal { clause: Clause::VectorLength, place: 0 })
+        Err(Refusal::at(0, Clause::VectorLength))
     } else if memory_length > 65_536 {
-        Err(Refusal { clause: Clause::MemoryLength, place: 0 })
+        Err(Refusal::at(0, Clause::MemoryLength))
     } else {
         machine.sheet(sheet)
     };
@@ -133,7 +142,7 @@ impl Machine<'_> {
         self.seen.mark_if(sheet.is_empty(), Event::EmptySheet);
         while reader.place < sheet.len() {
             let place = reader.place;
-            let refused = |clause| Refusal { clause, place };
+            let refused = |clause| Refusal::at(place, clause);
             match reader.number().map_err(refused)? {
                 1 => self.open(&mut reader).map_err(refused)?,
                 2 => self.dimension(&mut reader).map_err(refused)?,
@@ -246,7 +255,7 @@ impl Machine<'_> {
 
     /// The whole body is read, then bytes after it refused, then 16 checked, before the first pass.
     fn run(&mut self, reader: &mut Reader, place: usize) -> Result<(), Refusal> {
-        let refused = |clause| Refusal { clause, place };
+        let refused = |clause| Refusal::at(place, clause);
         let loop_register = reader.register(Clause::RunLoopRegister).map_err(refused)?;
         let count = reader.upto(16, Clause::RunCountAbove).map_err(refused)?;
         if count == 0 {
@@ -256,10 +265,10 @@ impl Machine<'_> {
         reader.no_number = Clause::of_calculation;
         for _ in 0..count {
             let place = reader.place;
-            body.push(calculation(reader).map_err(|clause| Refusal { clause, place })?);
+            body.push(calculation(reader).map_err(|clause| Refusal::at(place, clause))?);
         }
         if reader.place < reader.sheet.len() {
-            return Err(Refusal { clause: Clause::BytesAfterRun, place: reader.place });
+            return Err(Refusal::at(reader.place, Clause::BytesAfterRun));
         }
         self.loop_register(loop_register, &body).map_err(refused)?;
         self.passes(loop_register, &body)
@@ -286,7 +295,7 @@ impl Machine<'_> {
         while self.registers[loop_register].state == State::Open {
             for calculation in body {
                 self.seen.mark_if(self.registers[loop_register].state == State::Finished, Event::LoopFinishesInBody);
-                self.calculate(calculation).map_err(|clause| Refusal { clause, place: calculation.place })?;
+                self.calculate(calculation).map_err(|Fault { clause, outside }| Refusal { clause, place: calculation.place, outside })?;
                 self.calculations += 1;
             }
             self.passes += 1;

@@ -1,4 +1,4 @@
-//! Events of completed calculations, for the counts. Nothing here changes what the model answers.
+//! Events of calculations, for the counts. Nothing here changes what the model answers.
 
 use crate::calculation::Calculation;
 use crate::clauses::Event;
@@ -16,6 +16,8 @@ impl Machine<'_> {
         let overlaps = destination && (first && meets(c.first) || second && meets(c.second));
         let twice = written.windows(2).any(|pair| (pair[0] - pair[1]).abs() < width);
         let part = destination && n < chunk(c.destination).len();
+        let outside = |element: &Element| !self.is_inside(element.address, width as usize);
+        let outside_behind = part && chunk(c.destination)[n..].iter().any(outside);
 
         let seen = &mut self.seen;
         seen.mark(OPERATIONS[c.operation as usize]);
@@ -30,6 +32,26 @@ impl Machine<'_> {
         seen.mark_if(part && n == 0, Event::StoreNone);
         seen.mark_if(overlaps, Event::StoreOverlaps);
         seen.mark_if(twice, Event::StoreTwice);
+        seen.mark_if(outside_behind && n > 0, Event::StoreBehindOutside);
+        seen.mark_if(outside_behind && n == 0, Event::StoreNoneOutside);
+    }
+
+    /// A calculation that would have written at these addresses is about to be refused with 14.
+    pub fn note_outside(&mut self, c: &Calculation, written: &[i64]) {
+        let width = self.registers[c.first].width;
+        let inside = |addresses: &[i64]| addresses.iter().map(|&address| self.is_inside(address, width)).collect::<Vec<bool>>();
+        let operands = [inside(&self.addresses(c.first)), inside(&self.addresses(c.second)), inside(written)];
+        let lane = |operand: &Vec<bool>| operand.iter().position(|inside| !inside);
+        let [first, second, store] = [0, 1, 2].map(|at| lane(&operands[at]));
+        let source = first.or(second);
+        let again = operands.iter().find_map(|operand| lane(operand).map(|lane| operand[lane..].contains(&true)));
+        let below = |one: Option<usize>, other: Option<usize>| one.is_some_and(|one| other.is_some_and(|other| one < other));
+
+        let seen = &mut self.seen;
+        seen.mark_if(first.is_some() && c.first == c.second && c.operation != 0, Event::TwiceOutside);
+        seen.mark_if(below(second, first), Event::BothOutside);
+        seen.mark_if(below(store, source), Event::SourceAndStoreOutside);
+        seen.mark_if(again == Some(true), Event::InsideAgain);
     }
 
     /// An open stream is about to move on by some elements of its next chunk.

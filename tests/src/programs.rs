@@ -2,14 +2,15 @@
 //!
 //!     programs FOLDER        the folder that has them: target/bin
 //!
-//! What is held to the model: the sheets of `translate`, and the first line, the counts and the memory of `run`. The texts as a whole are
-//! held to the files of `expected/`, which were read by eye.
+//! What is held to the model: the sheets of `translate`, and the first line, the lane outside memory, the counts and the memory of `run`.
+//! The texts as a whole are held to the files of `expected/`, which were read by eye.
 
 use std::fs;
 use std::io::Write as _;
 use std::path::{Path, PathBuf};
 use std::process::{Command, ExitCode, Stdio};
 
+use tests::calculation::{Outside, Role};
 use tests::report::report;
 use tests::{model, nest};
 
@@ -49,6 +50,22 @@ fn why(number: u64) -> &'static str {
         9 => "the product of the loops' largest counts is above 1,048,576",
         _ => "no refusal of a nest",
     }
+}
+
+/// What `run` says of a refusal 14.
+fn where_outside(outside: Outside) -> String {
+    let operand = match outside.role {
+        Role::First => "first source",
+        Role::Second => "second source",
+        Role::Destination => "destination",
+    };
+    format!("lane {} of the {operand}, at address {}, lies outside memory", outside.lane, outside.address)
+}
+
+/// The text of a file of `examples/`.
+fn example_text(name: &str) -> Result<String, String> {
+    let path = format!("../examples/{name}.hex");
+    fs::read_to_string(&path).map_err(|error| format!("{path}: {error}"))
 }
 
 /// The bytes of commented hexadecimal text.
@@ -149,40 +166,47 @@ impl Tried {
         Ok(())
     }
 
-    /// An example: its listing, from a file and from standard input, and its run, with the memory that it leaves. Its comment says how the
-    /// run begins.
-    fn example(&mut self, name: &str, comment: &str, sheet: &[u8], vl: u64, image: &[u8]) -> Result<(), String> {
+    /// The program `run`: its text is that of a file in `expected/`; its first line, the lane outside, the counts and the memory are the
+    /// model's. Answers the first line.
+    fn ran(&mut self, name: &str, sheet: &[u8], vl: u64, image: &[u8]) -> Result<String, String> {
         self.made("sheet", sheet)?;
         self.made("image", image)?;
-        self.expect_file("listing", &["sheet"], b"", &format!("{name}.listing"))?;
-        self.expect_file("listing", &[], sheet, &format!("{name}.listing"))?;
         let text = self.expect_file("run", &[&vl.to_string(), "sheet", "image", "after"], b"", &format!("{name}.run"))?;
+        let text = String::from_utf8_lossy(&text).into_owned();
+        let line = |at: usize| text.lines().nth(at).unwrap_or("").as_bytes();
         let mut memory = image.to_vec();
-        let numbers = report(&model::run(sheet, vl, &mut memory));
+        let answer = model::run(sheet, vl, &mut memory);
+        let numbers = report(&answer);
         let after = fs::read(self.path("after")).map_err(|error| format!("after: {error}"))?;
         self.same(&format!("{name}: memory"), &after, &memory);
-        let text = String::from_utf8_lossy(&text).into_owned();
         let first = if numbers[0] == 0 { "done".into() } else { format!("refused {} at {}", numbers[0], numbers[1]) };
-        self.same(&format!("{name}: first line"), text.lines().next().unwrap_or("").as_bytes(), first.as_bytes());
+        self.same(&format!("{name}: first line"), line(0), first.as_bytes());
+        if let Some(outside) = answer.refusal.and_then(|refusal| refusal.outside) {
+            self.same(&format!("{name}: lane outside"), line(1), where_outside(outside).as_bytes());
+        }
         let counts = format!("{}, {}", plural(numbers[2], "pass", "passes"), plural(numbers[3], "calculation", "calculations"));
         self.same(&format!("{name}: counts"), &[u8::from(text.lines().any(|line| line == counts))], &[1]);
-        let said = comment.lines().find_map(|line| line.strip_prefix("# First line: ")).unwrap_or("");
-        self.same(&format!("{name}: its comment"), said.as_bytes(), first.as_bytes());
         let changed = memory.iter().zip(image).filter(|(now, before)| now != before).count();
         let last = format!("{changed} of {} memory bytes changed", image.len());
         self.same(&format!("{name}: last line"), text.lines().last().unwrap_or("").as_bytes(), last.as_bytes());
+        Ok(first)
+    }
+
+    /// An example: its listing, from a file and from standard input, and its run. Its comment says how the run begins.
+    fn example(&mut self, name: &str, comment: &str, sheet: &[u8], vl: u64, image: &[u8]) -> Result<(), String> {
+        let first = self.ran(name, sheet, vl, image)?;
+        self.expect_file("listing", &["sheet"], b"", &format!("{name}.listing"))?;
+        self.expect_file("listing", &[], sheet, &format!("{name}.listing"))?;
+        let said = comment.lines().find_map(|line| line.strip_prefix("# First line: ")).unwrap_or("");
+        self.same(&format!("{name}: its comment"), said.as_bytes(), first.as_bytes());
         Ok(())
     }
 
     /// The examples of the repository. Each names in its comment the vector length of its run.
     fn examples(&mut self) -> Result<(), String> {
-        let text = |name: &str| {
-            let path = format!("../examples/{name}.hex");
-            fs::read_to_string(&path).map_err(|error| format!("{path}: {error}"))
-        };
-        let image = bytes_of(&text("image")?);
+        let image = bytes_of(&example_text("image")?);
         for name in ["first", "triangle", "coupled-triangle", "ragged-rows", "saxpy", "named-twice", "smoothing"] {
-            let text = text(name)?;
+            let text = example_text(name)?;
             let command =
                 text.lines().find_map(|line| line.split("target/bin/run ").nth(1)).ok_or_else(|| format!("{name}: no command"))?;
             let vl = command.split(' ').next().and_then(|word| word.parse().ok()).ok_or_else(|| format!("{name}: no vector length"))?;
@@ -198,6 +222,24 @@ impl Tried {
             self.told(document, &format!("target/bin/run {vl} sheet image after"), &format!("{name}.run"))?;
         }
         self.told("docs/USING.md", "./run-c sheet image", "first.run-c")
+    }
+
+    /// Runs that are refused with 14, for each operand: document 01's words in 39 bytes, a second source that runs down below 0, the
+    /// first example in 72 bytes.
+    fn outside(&mut self) -> Result<(), String> {
+        let image = bytes_of(&example_text("image")?);
+        let words = bytes_of("01 8B C1 15 04  02 01 00 05 04  04 01  05 01 01  00 02 01 01");
+        self.ran("outside-first", &words, 16, &image[..39])?;
+        let down = bytes_of(
+            "01 8B A1 01 00  02 01 00 06 02  04 01
+            01 8B A2 01 10  02 02 00 06 03  04 02
+            01 8B 23 80 01  02 03 00 06 02  04 03
+            05 01 01  01 03 01 02",
+        );
+        self.ran("outside-second", &down, 8, &image)?;
+        self.ran("outside-destination", &bytes_of(&example_text("first")?), 16, &image[..72])?;
+        self.told("docs/USING.md", "target/bin/run 16 sheet short", "outside-destination.run")?;
+        self.told("docs/USING.md", "./run-c sheet short", "outside-destination.run-c")
     }
 
     /// A sheet that is refused before it runs is listed up to there.
@@ -284,6 +326,7 @@ impl Tried {
     fn all(&mut self) -> Result<(), String> {
         self.translations()?;
         self.examples()?;
+        self.outside()?;
         self.refused_sheets()?;
         self.many_streams()?;
         self.full_device()?;

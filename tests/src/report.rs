@@ -1,5 +1,5 @@
 //! What a sheet came to, as the numbers of the engine's report. Eight numbers of the answer, fourteen for each register, eight for masks,
-//! each little-endian in 64 bits.
+//! each little-endian in 64 bits. The answer: number, place, passes, calculations, lane and operand of a refusal 14, and two that stay 0.
 
 use crate::calculation::value;
 use crate::model::{Answer, Register, State};
@@ -14,7 +14,11 @@ pub fn report(answer: &Answer) -> Vec<u64> {
         None => (0, 0),
         Some(refusal) => (refusal.clause.number(), refusal.place as u64),
     };
-    let mut numbers = vec![number, place, answer.passes, answer.calculations, 0, 0, 0, 0];
+    let (lane, operand) = match answer.refusal.and_then(|refusal| refusal.outside) {
+        None => (0, 0),
+        Some(outside) => (outside.lane as u64, outside.role.number()),
+    };
+    let mut numbers = vec![number, place, answer.passes, answer.calculations, lane, operand, 0, 0];
     for register in &answer.registers {
         numbers.extend(of_register(register));
     }
@@ -65,7 +69,9 @@ pub fn name(at: usize) -> String {
         1 => "place".into(),
         2 => "passes".into(),
         3 => "calculations".into(),
-        4..=7 => format!("number {at} of the answer"),
+        4 => "lane".into(),
+        5 => "operand".into(),
+        6..=7 => format!("number {at} of the answer"),
         _ if at < 8 + 32 * 14 => {
             let (register, field) = ((at - 8) / 14, (at - 8) % 14);
             match OF_REGISTER.get(field) {

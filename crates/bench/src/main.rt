@@ -1,5 +1,6 @@
 // The bench: reads a table of rows from standard input, runs each row's sheet on the compiled engine, and compares. The table is the
 // file crates/bench/stdin, whose head says how rows are written.
+use codec::refusal::Refusal;
 use engine::check::Told;
 use engine::question::end_of_stream;
 use engine::question::flag;
@@ -187,19 +188,24 @@ fn number_bytes(memory: &mut [u8]) {
     }
 }
 
-// Whether the refusal's number and place, 0 if there is none, the passes and the calculations are these.
-fn is_outcome(v: Verdict, r: Report, want: [u64; 4]) -> bool {
+// Whether a refusal has these numbers: its own, and of 14 lane and operand.
+fn is_refusal(why: Refusal, want: [u64; 6]) -> bool {
+    why.number() == want[0] && why.lane() == want[4] && why.operand() == want[5]
+}
+
+// Whether the refusal's number and place, 0 if there is none, the passes and the calculations, and of a 14 lane and operand are these.
+fn is_outcome(v: Verdict, r: Report, want: [u64; 6]) -> bool {
     if r.passes != want[2] || r.calculations != want[3] {
         return false;
     }
     match v {
         Verdict::Done => want[0] == 0 && want[1] == 0,
-        Verdict::Refused(why, at) => why.number() == want[0] && at as u64 == want[1],
+        Verdict::Refused(why, at) => at as u64 == want[1] && is_refusal(why, want),
     }
 }
 
 // The same of a sheet that is run on a memory.
-fn has_outcome(sheet: &[u8], vl: u64, memory: &mut [u8], want: [u64; 4]) -> bool {
+fn has_outcome(sheet: &[u8], vl: u64, memory: &mut [u8], want: [u64; 6]) -> bool {
     let answer = run(sheet, vl, memory);
     let verdict = answer.verdict;
     let report = answer.report;
@@ -248,13 +254,14 @@ fn judged(agrees: bool) -> Row {
 
 // run, copies, memory: whether a sheet has the outcome of one field, and leaves a memory that ends with the bytes of another.
 fn ran(sheet: &[u8], vl: u64, memory: &mut [u8], numbers_in: &[u8], bytes_in: &[u8]) -> Row {
-    let mut want = [0u64; 4];
+    let mut want = [0u64; 6];
     let mut after = [0u8; 256];
     let taken = bytes(bytes_in, &mut after);
     if !taken.1 {
         return Row::Unreadable;
     }
-    if numbers(numbers_in, &mut want) != 4 {
+    let given = numbers(numbers_in, &mut want);
+    if given != 4 && given != 6 {
         return Row::Unreadable;
     }
     let n = taken.0;

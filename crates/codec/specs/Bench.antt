@@ -12,7 +12,7 @@ use mathlib.Core.Bool.{cond}
 use lib.ListN.{length}
 use lib.Dec.{leb}
 use lib.IntN.{pos, negsuc}
-use Rattle.codec.specs.Refusals.{numberOf}
+use Rattle.codec.specs.Refusals.{numberOf, laneOf, operandOf}
 use Rattle.codec.specs.Numbers.{groupsAt, numberAt, signedOf, signedAt, groupsOf, numberBytes, unsignedOf}
 use Rattle.codec.specs.Headers.{bytesOf, headerSaid, headerOf}
 use Rattle.codec.specs.Operations.{openAt, dimensionAt, modifierAt, endAt, runAt, operationAt, calculationAt}
@@ -32,6 +32,7 @@ use Rattle.codec.specs.declared.operation.Decoded.{Decoded}
 use Rattle.codec.specs.declared.operation.Decoded.the-variants as decoded
 use Rattle.codec.specs.declared.operation.Body.{Body}
 use Rattle.codec.specs.declared.operation.Body.the-variants as body
+use Rattle.codec.specs.declared.refusal.Role.the-variants as role
 use Rattle.codec.specs.declared.refusal.Refusal.{Refusal}
 use Rattle.codec.specs.declared.refusal.Refusal.the-variants.{BadNumber, OutOfRange, FixedBits, NotCarried, WrongState, TooMany, Misplaced, LowHigh, Product, WrongKind, StreamEnded, Widths, LaneCounts, Outside, Lengths, LoopRegister, NoRoom}
 
@@ -86,8 +87,13 @@ words = (refl, refl, refl, refl, refl, refl, refl, refl)
 pub codes :
     (map numberOf
     (BadNumber ∷ OutOfRange ∷ FixedBits ∷ NotCarried ∷ WrongState ∷ TooMany ∷ Misplaced ∷ LowHigh ∷ Product ∷ WrongKind ∷ StreamEnded ∷ Widths
-    ∷ LaneCounts ∷ Outside ∷ Lengths ∷ LoopRegister ∷ NoRoom ∷ [])
+    ∷ LaneCounts ∷ Outside 5 role.Second ∷ Lengths ∷ LoopRegister ∷ NoRoom ∷ [])
     ≡ 1 ∷ 2 ∷ 3 ∷ 4 ∷ 5 ∷ 6 ∷ 7 ∷ 8 ∷ 9 ∷ 10 ∷ 11 ∷ 12 ∷ 13 ∷ 14 ∷ 15 ∷ 16 ∷ 17 ∷ [])
+    × (map (λ r. numberOf (Outside 5 r)) (role.First ∷ role.Second ∷ role.Destination ∷ []) ≡ 14 ∷ 14 ∷ 14 ∷ [])
+    × (map (λ r. laneOf (Outside 5 r)) (role.First ∷ role.Second ∷ role.Destination ∷ []) ≡ 5 ∷ 5 ∷ 5 ∷ [])
+    × (map (λ r. operandOf (Outside 5 r)) (role.First ∷ role.Second ∷ role.Destination ∷ []) ≡ 0 ∷ 1 ∷ 2 ∷ [])
+    × (laneOf LaneCounts ≡ 0)
+    × (operandOf LaneCounts ≡ 0)
     × (map headerOf (0x8b ∷ 0x108b ∷ 0x208b ∷ 0x308b ∷ [])
     ≡ map (λ w. word.Said (record { kind = Store; width = w; register = 1; coupling = Uncoupled })) (B ∷ H ∷ W ∷ D ∷ []))
     × (map headerOf (0x408b ∷ 0x508b ∷ 0x608b ∷ 0x708b ∷ [])
@@ -111,7 +117,7 @@ pub codes :
     ≡ map (λ a. body.Calculation (record { action = a; destination = 3; first = 1; second = 1 }) (record { at = 4 }))
     (action.Copy ∷ action.Add ∷ action.Subtract ∷ action.And ∷ action.Or ∷ action.Xor ∷ action.Smaller ∷ action.Larger ∷ []))
 unfolding numberAt groupsAt signedOf headerSaid headerOf modifierAt operationAt calculationAt
-codes = (refl, refl, refl, refl, refl, refl, refl)
+codes = (refl, refl, refl, refl, refl, refl, refl, refl, refl, refl, refl, refl)
 
 -- what stands in a sheet, one after the other
 pub data Step : Type 0 where

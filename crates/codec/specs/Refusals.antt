@@ -1,9 +1,16 @@
 -- Refusals and their numbers.
 --
 --   numberOf               the number that document 01's table gives a refusal
---   numbered, one-number, is-numbered   the refusal of a number: no two have the same
+--   roleNumber, laneOf, operandOf   the two numbers more that 14 carries
+--   numbered, rolled, one-role, one-number   a refusal is known by these three
+--   is-numbered            any but 14 by its own number alone
 use Prim.Native.Nat.{ℕ, zero, suc}
 use mathlib.Core.Path.{_≡_, refl, sym, _∙_, ap}
+use mathlib.Core.Bool.{false}
+use lib.Dec.{eqb}
+use Rattle.codec.specs.TestLaws.{never}
+use Rattle.codec.specs.declared.refusal.Role.{Role}
+use Rattle.codec.specs.declared.refusal.Role.the-variants as role
 use Rattle.codec.specs.declared.refusal.Refusal.{Refusal}
 use Rattle.codec.specs.declared.refusal.Refusal.the-variants.{BadNumber, OutOfRange, FixedBits, NotCarried, WrongState, TooMany, Misplaced, LowHigh, Product, WrongKind, StreamEnded, Widths, LaneCounts, Outside, Lengths, LoopRegister, NoRoom}
 
@@ -22,34 +29,93 @@ numberOf WrongKind = 10
 numberOf StreamEnded = 11
 numberOf Widths = 12
 numberOf LaneCounts = 13
-numberOf Outside = 14
+numberOf (Outside lane role) = 14
 numberOf Lengths = 15
 numberOf LoopRegister = 16
 numberOf NoRoom = 17
 
--- the refusal that has a number, 1 to 17; any other number, which no refusal has, gives the first or the last
-abbrev pub numbered : ℕ → Refusal
-numbered zero = BadNumber
-numbered (suc zero) = BadNumber
-numbered (suc (suc zero)) = OutOfRange
-numbered (suc (suc (suc zero))) = FixedBits
-numbered (suc (suc (suc (suc zero)))) = NotCarried
-numbered (suc (suc (suc (suc (suc zero))))) = WrongState
-numbered (suc (suc (suc (suc (suc (suc zero)))))) = TooMany
-numbered (suc (suc (suc (suc (suc (suc (suc zero))))))) = Misplaced
-numbered (suc (suc (suc (suc (suc (suc (suc (suc zero)))))))) = LowHigh
-numbered (suc (suc (suc (suc (suc (suc (suc (suc (suc zero))))))))) = Product
-numbered (suc (suc (suc (suc (suc (suc (suc (suc (suc (suc zero)))))))))) = WrongKind
-numbered (suc (suc (suc (suc (suc (suc (suc (suc (suc (suc (suc zero))))))))))) = StreamEnded
-numbered (suc (suc (suc (suc (suc (suc (suc (suc (suc (suc (suc (suc zero)))))))))))) = Widths
-numbered (suc (suc (suc (suc (suc (suc (suc (suc (suc (suc (suc (suc (suc zero))))))))))))) = LaneCounts
-numbered (suc (suc (suc (suc (suc (suc (suc (suc (suc (suc (suc (suc (suc (suc zero)))))))))))))) = Outside
-numbered (suc (suc (suc (suc (suc (suc (suc (suc (suc (suc (suc (suc (suc (suc (suc zero))))))))))))))) = Lengths
-numbered (suc (suc (suc (suc (suc (suc (suc (suc (suc (suc (suc (suc (suc (suc (suc (suc zero)))))))))))))))) = LoopRegister
-numbered (suc (suc (suc (suc (suc (suc (suc (suc (suc (suc (suc (suc (suc (suc (suc (suc (suc n))))))))))))))))) = NoRoom
+-- 02, 1/14: "whether the first source, second source or destination was at fault": 0, 1, 2, in the order in which they are looked at
+abbrev pub roleNumber : Role → ℕ
+roleNumber role.First = 0
+roleNumber role.Second = 1
+roleNumber role.Destination = 2
 
--- a refusal is the one that has its number
-pub one-number : (x : Refusal) → numbered (numberOf x) ≡ x
+-- 02, 1/14: "which lane, counted from 0, is the first outside"; only 14 carries it, any other has 0
+abbrev pub laneOf : Refusal → ℕ
+laneOf BadNumber = 0
+laneOf OutOfRange = 0
+laneOf FixedBits = 0
+laneOf NotCarried = 0
+laneOf WrongState = 0
+laneOf TooMany = 0
+laneOf Misplaced = 0
+laneOf LowHigh = 0
+laneOf Product = 0
+laneOf WrongKind = 0
+laneOf StreamEnded = 0
+laneOf Widths = 0
+laneOf LaneCounts = 0
+laneOf (Outside lane role) = lane
+laneOf Lengths = 0
+laneOf LoopRegister = 0
+laneOf NoRoom = 0
+
+-- 02, 1/14: the operand at fault; only 14 carries it, any other has 0
+abbrev pub operandOf : Refusal → ℕ
+operandOf BadNumber = 0
+operandOf OutOfRange = 0
+operandOf FixedBits = 0
+operandOf NotCarried = 0
+operandOf WrongState = 0
+operandOf TooMany = 0
+operandOf Misplaced = 0
+operandOf LowHigh = 0
+operandOf Product = 0
+operandOf WrongKind = 0
+operandOf StreamEnded = 0
+operandOf Widths = 0
+operandOf LaneCounts = 0
+operandOf (Outside lane role) = roleNumber role
+operandOf Lengths = 0
+operandOf LoopRegister = 0
+operandOf NoRoom = 0
+
+-- the operand that has a number, 0 to 2; any other number, which none has, gives the last
+abbrev pub rolled : ℕ → Role
+rolled zero = role.First
+rolled (suc zero) = role.Second
+rolled (suc (suc n)) = role.Destination
+
+-- an operand is the one that has its number
+pub one-role : (r : Role) → rolled (roleNumber r) ≡ r
+one-role role.First = refl
+one-role role.Second = refl
+one-role role.Destination = refl
+
+-- the refusal that has a number, 1 to 17, and of 14 that lane and operand; any other number, which no refusal has, gives the first or the
+-- last
+abbrev pub numbered : ℕ → ℕ → ℕ → Refusal
+numbered zero lane operand = BadNumber
+numbered (suc zero) lane operand = BadNumber
+numbered (suc (suc zero)) lane operand = OutOfRange
+numbered (suc (suc (suc zero))) lane operand = FixedBits
+numbered (suc (suc (suc (suc zero)))) lane operand = NotCarried
+numbered (suc (suc (suc (suc (suc zero))))) lane operand = WrongState
+numbered (suc (suc (suc (suc (suc (suc zero)))))) lane operand = TooMany
+numbered (suc (suc (suc (suc (suc (suc (suc zero))))))) lane operand = Misplaced
+numbered (suc (suc (suc (suc (suc (suc (suc (suc zero)))))))) lane operand = LowHigh
+numbered (suc (suc (suc (suc (suc (suc (suc (suc (suc zero))))))))) lane operand = Product
+numbered (suc (suc (suc (suc (suc (suc (suc (suc (suc (suc zero)))))))))) lane operand = WrongKind
+numbered (suc (suc (suc (suc (suc (suc (suc (suc (suc (suc (suc zero))))))))))) lane operand = StreamEnded
+numbered (suc (suc (suc (suc (suc (suc (suc (suc (suc (suc (suc (suc zero)))))))))))) lane operand = Widths
+numbered (suc (suc (suc (suc (suc (suc (suc (suc (suc (suc (suc (suc (suc zero))))))))))))) lane operand = LaneCounts
+numbered (suc (suc (suc (suc (suc (suc (suc (suc (suc (suc (suc (suc (suc (suc zero)))))))))))))) lane operand = Outside lane (rolled operand)
+numbered (suc (suc (suc (suc (suc (suc (suc (suc (suc (suc (suc (suc (suc (suc (suc zero))))))))))))))) lane operand = Lengths
+numbered (suc (suc (suc (suc (suc (suc (suc (suc (suc (suc (suc (suc (suc (suc (suc (suc zero)))))))))))))))) lane operand = LoopRegister
+numbered (suc (suc (suc (suc (suc (suc (suc (suc (suc (suc (suc (suc (suc (suc (suc (suc (suc n))))))))))))))))) lane operand = NoRoom
+
+-- a refusal is the one that has its three numbers
+pub one-number : (x : Refusal) → numbered (numberOf x) (laneOf x) (operandOf x) ≡ x
 one-number BadNumber = refl
 one-number OutOfRange = refl
 one-number FixedBits = refl
@@ -63,11 +129,27 @@ one-number WrongKind = refl
 one-number StreamEnded = refl
 one-number Widths = refl
 one-number LaneCounts = refl
-one-number Outside = refl
+one-number (Outside lane role) = ap (Outside lane) (one-role role)
 one-number Lengths = refl
 one-number LoopRegister = refl
 one-number NoRoom = refl
 
--- so the number says which it is
-pub is-numbered : (x : Refusal) (n : ℕ) → numberOf x ≡ n → x ≡ numbered n
-is-numbered x n e = sym (one-number x) ∙ ap numbered e
+-- any but 14 is known by its own number
+pub is-numbered : (x : Refusal) (n : ℕ) → numberOf x ≡ n → eqb n 14 ≡ false → x ≡ numbered n 0 0
+is-numbered BadNumber n e f = ap (λ k. numbered k 0 0) e
+is-numbered OutOfRange n e f = ap (λ k. numbered k 0 0) e
+is-numbered FixedBits n e f = ap (λ k. numbered k 0 0) e
+is-numbered NotCarried n e f = ap (λ k. numbered k 0 0) e
+is-numbered WrongState n e f = ap (λ k. numbered k 0 0) e
+is-numbered TooMany n e f = ap (λ k. numbered k 0 0) e
+is-numbered Misplaced n e f = ap (λ k. numbered k 0 0) e
+is-numbered LowHigh n e f = ap (λ k. numbered k 0 0) e
+is-numbered Product n e f = ap (λ k. numbered k 0 0) e
+is-numbered WrongKind n e f = ap (λ k. numbered k 0 0) e
+is-numbered StreamEnded n e f = ap (λ k. numbered k 0 0) e
+is-numbered Widths n e f = ap (λ k. numbered k 0 0) e
+is-numbered LaneCounts n e f = ap (λ k. numbered k 0 0) e
+is-numbered (Outside lane role) n e f = never (sym f ∙ ap (λ k. eqb k 14) (sym e))
+is-numbered Lengths n e f = ap (λ k. numbered k 0 0) e
+is-numbered LoopRegister n e f = ap (λ k. numbered k 0 0) e
+is-numbered NoRoom n e f = ap (λ k. numbered k 0 0) e

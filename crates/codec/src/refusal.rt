@@ -1,5 +1,25 @@
 ghost use mathlib.Core.Path.{_≡_};
-ghost use Rattle.codec.specs.Refusals.{numberOf};
+ghost use Rattle.codec.specs.Refusals.{numberOf, laneOf, operandOf, roleNumber};
+
+// Which operand of a calculation: in the order in which they are looked at.
+pub enum Role {
+    First,
+    Second,
+    Destination,
+}
+
+impl Role {
+    // The operand's number: 0 for the first source, 1 for the second, 2 for the destination.
+    pub fn number(self) -> u64
+        ensures { λ r. ⌜ r ≡ roleNumber self ⌝ }
+    {
+        match self {
+            Role::First => 0,
+            Role::Second => 1,
+            Role::Destination => 2,
+        }
+    }
+}
 
 // Why an operation, a calculation, a sheet or a nest is refused: document 01's table, in its order.
 pub enum Refusal {
@@ -29,8 +49,8 @@ pub enum Refusal {
     Widths,
     // 13: lanes differ, or exceed the store chunk
     LaneCounts,
-    // 14: element outside memory
-    Outside,
+    // 14: element outside memory; the first lane outside, counted from 0, and the operand at fault
+    Outside(usize, Role),
     // 15: vector length or memory length not allowed
     Lengths,
     // 16: loop register is no open or finished load stream, or no calculation names it as a source
@@ -58,10 +78,29 @@ impl Refusal {
             Refusal::StreamEnded => 11,
             Refusal::Widths => 12,
             Refusal::LaneCounts => 13,
-            Refusal::Outside => 14,
+            Refusal::Outside(lane, role) => 14,
             Refusal::Lengths => 15,
             Refusal::LoopRegister => 16,
             Refusal::NoRoom => 17,
+        }
+    }
+    // The lane that 14 names; 0 of any other refusal.
+    pub fn lane(self) -> u64
+        ensures { λ r. ⌜ r ≡ laneOf self ⌝ }
+    {
+        match self {
+            Refusal::Outside(lane, role) => lane as u64,
+            _ => 0,
+        }
+    }
+
+    // The number of the operand that 14 names; 0 of any other refusal.
+    pub fn operand(self) -> u64
+        ensures { λ r. ⌜ r ≡ operandOf self ⌝ }
+    {
+        match self {
+            Refusal::Outside(lane, role) => role.number(),
+            _ => 0,
         }
     }
 }

@@ -4,11 +4,11 @@
 --   moved-room         elements moved are few
 --   turned-down        a refused calculation
 --   by-operands        why, once states and widths fit
---   second-beyond      the second source that is the first once more
+--   unblamed, second-blamed   14 of an operand that is not refused; of the second source that is the first once more
 --   stopped, cleared   refused by an operand, or not at all
 use Prim.Native.Nat.{ℕ, _+_, _-_, _/_, _≤_, _<_, _^_}
 use mathlib.Core.Path.{_≡_, refl, sym, _∙_, ap, subst}
-use mathlib.Core.List.{List, []}
+use mathlib.Core.List.{List, [], _∷_}
 use mathlib.Core.Bool.{Bool, true, false, not, cond, _&&_, _||_}
 use native.Mathlib.Omega.{arith}
 use lib.ListN.{length, take, drop, replicate, length-take, length-drop}
@@ -16,6 +16,8 @@ use lib.Dec.{eqb, ltb}
 use lib.IntN.{ℤ}
 use borrow.Author.Tests.{eqb-true, ltb-false, not-false}
 use Rattle.codec.specs.TestLaws.{or-false, and-false}
+use Rattle.codec.specs.declared.refusal.Role.{Role}
+use Rattle.codec.specs.declared.refusal.Role.the-variants as role
 use Rattle.codec.specs.declared.refusal.Refusal.{Refusal}
 use Rattle.engine.specs.Checks.{firstOf}
 use Rattle.engine.specs.Loops.{elements}
@@ -25,11 +27,13 @@ use Rattle.engine.specs.CountLaws.{few}
 use Rattle.engine.specs.Registers.{isOpen}
 use Rattle.engine.specs.Stretches.{allWithin}
 use Rattle.engine.specs.Places.{Ready}
+use Rattle.engine.specs.GoodLaws.{next, more}
+use Rattle.engine.specs.CalculationLaws.{nothing}
 use Rattle.engine.specs.LaneLaws.{width-range}
 use Rattle.engine.specs.Runnings.{viewOf, bare, listedIn}
-use Rattle.engine.specs.Operands.{operandOf, Taken, whyOn}
+use Rattle.engine.specs.Operands.{operandOf, Taken, blamed, whyOn}
 use Rattle.engine.specs.Calculations.{Fit, Cleared}
-use Rattle.engine.proofs.Ordered.{states, after, widths, flags, fits, one-width, store-width, target-few}
+use Rattle.engine.proofs.Ordered.{states, after, widths, flags, fits, one-width, store-width, target-few, third-outside}
 use Rattle.engine.proofs.Carrying.{taken-long}
 use Rattle.engine.specs.declared.check.Why.{Why}
 use Rattle.engine.specs.declared.check.Why.the-variants.{Nothing, Because}
@@ -64,10 +68,6 @@ ready vl p row q f e =
 abbrev pub lanesDiffer : Ahead → Ahead → Ahead → Bool
 lanesDiffer x y z = not (eqb (x .count) (y .count)) || z .live && ltb (z .count) (x .count)
 
--- 14: an element that an open stream would move lies outside memory
-abbrev pub beyond : ℕ → Ahead → ℕ → List (List ℤ) → Bool
-beyond len o width l = o .live && not (allWithin len width (listedIn o l))
-
 -- elements moved are few
 pub moved-room : (vl : ℕ) (p : Pattern) (before : List ℕ) (q : Running) → Fit vl p before q → (most plain : ℕ) (row : List ℕ) (xs : List (List ℤ)) (o : Ahead) → Taken p before q most plain row xs o
     → o .live ≡ true → q .moved + o .count < 2 ^ 32
@@ -80,11 +80,20 @@ moved-room vl p before q f most plain row xs o t e =
     let l : length (take n (drop (q .moved) (elements s))) ≤ length (elements s) - q .moved = simp (length-take, length-drop) (omega arith) in
     omega (arith, c, l, ap length (chunk-elements s most (q .moved) (covered s (s .coupling) (y .accepted .covered))), y .some, few s, y .accepted .few)
 
--- the second source, with the first's parts if it is the first once more: it lies outside exactly if it is another and does
-pub second-beyond : (len width : ℕ) (same : Bool) (o : Ahead) (xs ys : List (List ℤ)) (q : Bool) → q ≡ (not same && beyond len o width ys)
-    → (same ≡ true → beyond len o width xs ≡ false) → beyond len o width (cond same xs ys) ≡ q
-second-beyond len width true o xs ys q e f = f refl ∙ sym e
-second-beyond len width false o xs ys q e f = sym e
+-- 14 refuses no operand: every element lies inside
+pub unblamed : (role : Role) (len width : ℕ) (o : Ahead) (l : List (List ℤ)) → firstOf (blamed role len width o l ∷ []) ≡ Nothing
+    → o .live ≡ true → allWithin len width (listedIn o l) ≡ true
+unblamed role len width o l e t = not-false _ (and-false _ _ (next _ _ _ e .0) t)
+
+-- .. and it refuses none in another role
+pub no-role : (role role' : Role) (len width : ℕ) (o : Ahead) (l : List (List ℤ)) → firstOf (blamed role len width o l ∷ []) ≡ Nothing → firstOf (blamed role' len width o l ∷ []) ≡ Nothing
+no-role role role' len width o l e = more _ _ [] (next _ _ _ e .0) nothing
+
+-- the second source, with the first's parts if it is the first once more: it is refused exactly if it is another and lies outside
+pub second-blamed : (len width : ℕ) (same : Bool) (o : Ahead) (xs ys : List (List ℤ)) (q : Why) → q ≡ cond same Nothing (firstOf (blamed role.Second len width o ys ∷ []))
+    → (same ≡ true → firstOf (blamed role.First len width o xs ∷ []) ≡ Nothing) → firstOf (blamed role.Second len width o (cond same xs ys) ∷ []) ≡ q
+second-blamed len width true o xs ys q e f = no-role role.First role.Second len width o xs (f refl) ∙ sym e
+second-blamed len width false o xs ys q e f = sym e
 
 module _ (vl len : ℕ) (same : Bool) (pa pb pd : Pattern) (a b d : Running) (va vb vd va' vb' vd' : List ℕ) (xs ys zs : List (List ℤ)) where
   -- a refused calculation
@@ -106,25 +115,25 @@ module _ (vl len : ℕ) (same : Bool) (pa pb pd : Pattern) (a b d : Running) (va
       (e : firstOf (states (bare a) (bare b) (bare d)) ≡ Nothing) (w : widths (bare a) (bare b) (bare d) ≡ false) where
     pub by-operands : (la lb ld memory : List ℕ) → length la ≡ 64 → length lb ≡ 64 → length ld ≡ 64 → length memory ≡ len
         → whyOn vl memory (viewOf pa la va a) (viewOf pb lb vb b) (viewOf pd ld vd d)
-        ≡ firstOf (after false (lanesDiffer x y z) (beyond len x (a .width) xs) (beyond len y (b .width) ys) (beyond len z (d .width) zs))
+        ≡ firstOf (after false (lanesDiffer x y z) (blamed role.First len (a .width) x xs) (blamed role.Second len (b .width) y ys) (blamed role.Destination len (d .width) z zs))
     by-operands la lb ld memory p q s t =
         flags vl memory (viewOf pa la va a) (viewOf pb lb vb b) (viewOf pd ld vd d) (fa .good la p) (fb .good lb q)
         (operandOf pa la va' xs a x) (operandOf pb lb vb' ys b y) (operandOf pd ld vd' zs d z) (tx .operates la) (ty .operates lb) (tz .operates ld) e w
-        ∙ ap (λ n. firstOf (after false (lanesDiffer x y z) (beyond n x (a .width) xs) (beyond n y (b .width) ys) (beyond n z (d .width) zs))) t
+        ∙ ap (λ n. firstOf (after false (lanesDiffer x y z) (blamed role.First n (a .width) x xs) (blamed role.Second n (b .width) y ys) (blamed role.Destination n (d .width) z zs))) t
 
     -- an operand refuses
     pub stopped : (r : Checked) (v : Refusal) → r .why ≡ Because v
-        → ((u : Why) → u ≡ firstOf (after false (lanesDiffer x y z) (beyond len x (a .width) xs) (beyond len y (b .width) ys) (beyond len z (d .width) zs)) → u ≡ Because v)
+        → ((u : Why) → u ≡ firstOf (after false (lanesDiffer x y z) (blamed role.First len (a .width) x xs) (blamed role.Second len (b .width) y ys) (blamed role.Destination len (d .width) z zs)) → u ≡ Because v)
         → Cleared vl len same pa pb pd a b d va vb vd va' vb' vd' xs ys zs r
     stopped r v f g = turned-down r v f (λ la lb ld memory p q s t. g _ (by-operands la lb ld memory p q s t))
 
-    module _ (l : lanesDiffer x y z ≡ false) (ox : beyond len x (a .width) xs ≡ false) (oy : beyond len y (b .width) ys ≡ false) (oz : beyond len z (d .width) zs ≡ false) where
+    module _ (l : lanesDiffer x y z ≡ false) (ox : firstOf (blamed role.First len (a .width) x xs ∷ []) ≡ Nothing) (oy : firstOf (blamed role.Second len (b .width) y ys ∷ []) ≡ Nothing)
+        (oz : firstOf (blamed role.Destination len (d .width) z zs ∷ []) ≡ Nothing) where
       abbrev zeros : List ℕ
       zeros = replicate 64 0
 
-      nothing : firstOf (after false (lanesDiffer x y z) (beyond len x (a .width) xs) (beyond len y (b .width) ys) (beyond len z (d .width) zs)) ≡ Nothing
-      unfolding firstOf
-      nothing = rw (l, ox, oy, oz)
+      none : firstOf (after false (lanesDiffer x y z) (blamed role.First len (a .width) x xs) (blamed role.Second len (b .width) y ys) (blamed role.Destination len (d .width) z zs)) ≡ Nothing
+      none = third-outside _ _ _ _ _ refl l ox oy ∙ oz
 
       one : b .width ≡ a .width
       one = one-width vl [] (viewOf pa zeros va a) (viewOf pb zeros vb b) (viewOf pd zeros vd d) (fa .good zeros refl) (fb .good zeros refl) (operandOf pa zeros va' xs a x) (operandOf pb zeros vb' ys b y) (operandOf pd zeros vd' zs d z) (tx .operates zeros) (ty .operates zeros) (tz .operates zeros) e w
@@ -132,16 +141,13 @@ module _ (vl len : ℕ) (same : Bool) (pa pb pd : Pattern) (a b d : Running) (va
       stores : isOpen (d .state) ≡ true → d .width ≡ a .width
       stores = store-width vl [] (viewOf pa zeros va a) (viewOf pb zeros vb b) (viewOf pd zeros vd d) (fa .good zeros refl) (fb .good zeros refl) (operandOf pa zeros va' xs a x) (operandOf pb zeros vb' ys b y) (operandOf pd zeros vd' zs d z) (tx .operates zeros) (ty .operates zeros) (tz .operates zeros) e w
 
-      inside : (o : Ahead) (width : ℕ) (ls : List (List ℤ)) → beyond len o width ls ≡ false → o .live ≡ true → allWithin len width (listedIn o ls) ≡ true
-      inside o width ls f t = not-false _ (and-false _ _ f t)
-
       -- no check refuses
       pub cleared : (same ≡ true → (y ≡ x) × (listedIn y ys ≡ listedIn x xs)) → (r : Checked) → r ≡ record { why = Nothing; first = x; second = y; destination = z }
           → Cleared vl len same pa pb pd a b d va vb vd va' vb' vd' xs ys zs r
       cleared g r f =
           subst (Cleared vl len same pa pb pd a b d va vb vd va' vb' vd' xs ys zs) (sym f)
           (record {
-            refused = λ la lb ld memory p q s t. sym (by-operands la lb ld memory p q s t ∙ nothing);
+            refused = λ la lb ld memory p q s t. sym (by-operands la lb ld memory p q s t ∙ none);
             first = λ t. tx;
             second = λ t. ty;
             destination = λ t. tz;
@@ -153,9 +159,9 @@ module _ (vl len : ℕ) (same : Bool) (pa pb pd : Pattern) (a b d : Running) (va
               fills = λ u.
                   let p : x .count ≤ z .count = ltb-false (z .count) (x .count) (and-false _ _ (or-false (not (eqb (x .count) (y .count))) _ l .1) u) in
                   omega (arith, target-few (x .count) (viewOf pd zeros vd d) (operandOf pd zeros vd' zs d z) (tz .operates zeros));
-              first = inside x (a .width) xs ox;
-              second = λ u. rw (one) at (inside y (b .width) ys oy u);
-              third = λ u. rw (stores (sym (tz .operates zeros .told) ∙ u)) at (inside z (d .width) zs oz u);
+              first = unblamed role.First len (a .width) x xs ox;
+              second = λ u. rw (one) at (unblamed role.Second len (b .width) y ys oy u);
+              third = λ u. rw (stores (sym (tz .operates zeros .told) ∙ u)) at (unblamed role.Destination len (d .width) z zs oz u);
               firstLong = taken-long pa va va' a (vl / a .width) (a .valid) xs x tx;
               secondLong = taken-long pb vb vb' b (vl / b .width) (b .valid) ys y ty;
               thirdLong = taken-long pd vd vd' d (x .count) (x .count) zs z tz;

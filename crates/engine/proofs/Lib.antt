@@ -11,7 +11,7 @@ mod Rows
 mod RowSteps
 mod Lasts
 mod Moves
-mod Lengths
+pub mod Lengths
 mod Cuts
 pub mod ByteSteps
 mod PlaceSteps
@@ -28,8 +28,10 @@ mod LayoutSteps
 pub mod Promise2
 pub mod Unrefused
 pub mod Promise1
+pub mod Fallen
 pub mod Looking
 pub mod Carrying
 mod Taking
+mod Blames
 pub mod Clearing
 pub mod Rounds

@@ -10,22 +10,24 @@ use lib.Dec.{eqb, ltb}
 use borrow.Author.Tests.{eqb-true, not-false}
 use Rattle.codec.specs.TestLaws.{or-false, and-false}
 use Rattle.codec.specs.declared.operation.Action.{Action}
+use Rattle.codec.specs.declared.refusal.Role.{Role}
+use Rattle.codec.specs.declared.refusal.Role.the-variants as role
 use Rattle.codec.specs.declared.refusal.Refusal.{Refusal}
-use Rattle.codec.specs.declared.refusal.Refusal.the-variants.{Widths, LaneCounts, Outside}
+use Rattle.codec.specs.declared.refusal.Refusal.the-variants.{Widths, LaneCounts}
 use Rattle.engine.specs.Chunks.{streamGroups}
 use Rattle.engine.specs.ChunkLaws.{chunk-lanes}
 use Rattle.engine.specs.Lanes.{lane, lanewise}
 use Rattle.engine.specs.Memory.{holding}
 use Rattle.engine.specs.Checks.{Check, _if_, firstOf}
-use Rattle.engine.specs.CheckLaws.{first-stops, first-goes}
-use Rattle.engine.specs.Calculate.{given, outside, sourceChecks, destinationChecks}
+use Rattle.engine.specs.CheckLaws.{first-behind, first-stops, first-goes}
+use Rattle.engine.specs.Calculate.{given, sourceChecks, destinationChecks, insideCheck}
 use Rattle.engine.specs.EffectLaws.{open-store, given-fits, lanewise-length}
 use Rattle.engine.specs.Registers.{isOpen, openLoad, openStore, shapeOf, nextChunk}
 use Rattle.engine.specs.Good.{Good}
 use Rattle.engine.specs.GoodLaws.{next, width-some}
-use Rattle.engine.specs.Stretches.{allWithin, storedAt}
+use Rattle.engine.specs.Stretches.{storedAt}
 use Rattle.engine.proofs.LaneCounts.{few-lanes}
-use Rattle.engine.specs.Operands.{Operand, Operates, resultsOn, whyOn, Calculated, lanesOut, CarriedOut}
+use Rattle.engine.specs.Operands.{Operand, Operates, outsideAt, resultsOn, whyOn, Calculated, lanesOut, CarriedOut}
 use Rattle.engine.specs.OperandLaws.{source-count, source-outside, source-lanes, source-after, target-count, target-outside, target-after, target-memory}
 use Rattle.engine.specs.declared.check.Why.{Why}
 use Rattle.engine.specs.declared.check.Why.the-variants.{Nothing, Because}
@@ -34,9 +36,9 @@ use Rattle.engine.specs.declared.register.Register.{Register}
 abbrev pub states : Register → Register → Register → List Check
 states a b d = sourceChecks a ++ sourceChecks b ++ destinationChecks d
 
--- 12, 13, and 14 for each register in turn
-abbrev pub after : Bool → Bool → Bool → Bool → Bool → List Check
-after w l x y z = Widths if w ∷ LaneCounts if l ∷ Outside if x ∷ Outside if y ∷ Outside if z ∷ []
+-- 12, 13, and 14 of each register in turn
+abbrev pub after : Bool → Bool → Check → Check → Check → List Check
+after w l x y z = Widths if w ∷ LaneCounts if l ∷ x ∷ y ∷ z ∷ []
 
 abbrev pub widths : Register → Register → Register → Bool
 widths a b d = not (eqb (a .width) (b .width)) || openStore d && not (eqb (a .width) (d .width))
@@ -44,8 +46,8 @@ widths a b d = not (eqb (a .width) (b .width)) || openStore d && not (eqb (a .wi
 abbrev pub counts : Operand → Operand → Operand → Bool
 counts x y z = not (eqb (x .count) (y .count)) || z .live && ltb (z .count) (x .count)
 
-abbrev pub beyond : ℕ → Register → Operand → Bool
-beyond len r o = o .live && not (allWithin len (r .width) (o .addresses))
+abbrev pub beyond : Role → ℕ → Register → Operand → Check
+beyond role len r o = outsideAt role len (r .width) (o .live) (o .addresses)
 
 module _ (vl : ℕ) (memory : List ℕ) (a b d : Register) where
   -- the states refuse
@@ -57,7 +59,7 @@ module _ (vl : ℕ) (memory : List ℕ) (a b d : Register) where
       → whyOn vl memory a b d
       ≡ firstOf (after (widths a b d)
       (not (eqb (length (given vl memory a)) (length (given vl memory b))) || openStore d && ltb (length (nextChunk vl d)) (length (given vl memory a)))
-      (outside (length memory) a (nextChunk vl a)) (outside (length memory) b (nextChunk vl b)) (outside (length memory) d (take (length (given vl memory a)) (nextChunk vl d))))
+      (insideCheck role.First (length memory) a (nextChunk vl a)) (insideCheck role.Second (length memory) b (nextChunk vl b)) (insideCheck role.Destination (length memory) d (take (length (given vl memory a)) (nextChunk vl d))))
   states-pass e = first-goes (states a b d) _ e
 
   -- the destination is no open load
@@ -109,16 +111,23 @@ module _ (vl : ℕ) (memory : List ℕ) (a b d : Register) (ga : Good vl a) (gb 
   room t = rw (store-width t) (le-div-iff-mul-le {k = a .width} (width-some (a .width) (ga .width)) .1 fits)
 
   -- 13 and 14 by the operands
-  pub flags : whyOn vl memory a b d ≡ firstOf (after false (counts x y z) (beyond (length memory) a x) (beyond (length memory) b y) (beyond (length memory) d z))
+  pub flags : whyOn vl memory a b d
+      ≡ firstOf (after false (counts x y z) (beyond role.First (length memory) a x) (beyond role.Second (length memory) b y) (beyond role.Destination (length memory) d z))
   flags =
       let c : (z .live && ltb (z .count) (x .count)) ≡ (openStore d && ltb (length (nextChunk vl d)) (length (given vl memory a))) =
       target-count vl (x .count) d z hz room ∙ ap₂ (λ s k. s && ltb (length (nextChunk vl d)) k) (sym store) first-count in
       let l : counts x y z ≡ (not (eqb (length (given vl memory a)) (length (given vl memory b))) || openStore d && ltb (length (nextChunk vl d)) (length (given vl memory a))) =
       ap₂ (λ s t. not s || t) (ap₂ eqb first-count second-count) c in
-      let o : beyond (length memory) d z ≡ outside (length memory) d (take (length (given vl memory a)) (nextChunk vl d)) =
-      target-outside vl (x .count) d z hz room (length memory) ∙ ap (λ k. outside (length memory) d (take k (nextChunk vl d))) first-count in
+      let len = length memory in
+      let o : firstOf (beyond role.Destination len d z ∷ []) ≡ firstOf (insideCheck role.Destination len d (take (length (given vl memory a)) (nextChunk vl d)) ∷ []) =
+      target-outside vl (x .count) d z hz room role.Destination len [] ∙ ap (λ k. firstOf (insideCheck role.Destination len d (take k (nextChunk vl d)) ∷ [])) first-count in
       states-pass vl memory a b d e
-      ∙ (λ i. firstOf (after (w i) (sym l i) (sym (source-outside vl memory a x hx (length memory)) i) (sym (source-outside vl memory b y hy (length memory)) i) (sym o i)))
+      ∙ (λ i. firstOf (after (w i) (sym l i) (insideCheck role.First len a (nextChunk vl a)) (insideCheck role.Second len b (nextChunk vl b)) (insideCheck role.Destination len d (take (length (given vl memory a)) (nextChunk vl d)))))
+      ∙ first-behind (Widths if false) _ _
+      (first-behind (LaneCounts if counts x y z) _ _
+      (sym (source-outside vl memory a x hx role.First len _)
+      ∙ first-behind (beyond role.First len a x) _ _
+      (sym (source-outside vl memory b y hy role.Second len _) ∙ first-behind (beyond role.Second len b y) _ _ (sym o))))
 
 -- a calculation that no check refuses
 module _ (vl : ℕ) (memory : List ℕ) (a b d : Register) (ga : Good vl a) (x y z : Operand)
@@ -160,19 +169,22 @@ target-few n d o h = go (isOpen (d .state)) refl
     go false e = rw (rw e at (h .counted)) (le-refl n)
 
 -- the ways that a check on the operands refuses
-module _ (w : Why) (l p q s : Bool) (f : w ≡ firstOf (after false l p q s)) where
+module _ (w : Why) (l : Bool) (x y z : Check) (f : w ≡ firstOf (after false l x y z)) where
   pub counts-stop : l ≡ true → w ≡ Because LaneCounts
   unfolding firstOf
   counts-stop e = f ∙ rw e
 
-  pub first-outside : l ≡ false → p ≡ true → w ≡ Because Outside
+  -- 13 does not: 14 decides
+  counts-pass : l ≡ false → w ≡ firstOf (x ∷ y ∷ z ∷ [])
   unfolding firstOf
-  first-outside e g = f ∙ rw (e, g)
+  counts-pass e = f ∙ rw e
 
-  pub second-outside : l ≡ false → p ≡ false → q ≡ true → w ≡ Because Outside
-  unfolding firstOf
-  second-outside e g h = f ∙ rw (e, g, h)
+  pub first-outside : {v : Refusal} → l ≡ false → firstOf (x ∷ []) ≡ Because v → w ≡ Because v
+  first-outside e g = counts-pass e ∙ first-stops (x ∷ []) (y ∷ z ∷ []) _ g refl
 
-  pub third-outside : l ≡ false → p ≡ false → q ≡ false → s ≡ true → w ≡ Because Outside
-  unfolding firstOf
-  third-outside e g h k = f ∙ rw (e, g, h, k)
+  pub second-outside : {v : Refusal} → l ≡ false → firstOf (x ∷ []) ≡ Nothing → firstOf (y ∷ []) ≡ Because v → w ≡ Because v
+  second-outside e g h = counts-pass e ∙ first-goes (x ∷ []) (y ∷ z ∷ []) g ∙ first-stops (y ∷ []) (z ∷ []) _ h refl
+
+  -- the last decides where the first two do not refuse
+  pub third-outside : l ≡ false → firstOf (x ∷ []) ≡ Nothing → firstOf (y ∷ []) ≡ Nothing → w ≡ firstOf (z ∷ [])
+  third-outside e g h = counts-pass e ∙ first-goes (x ∷ []) (y ∷ z ∷ []) g ∙ first-goes (y ∷ []) (z ∷ []) h

@@ -6,6 +6,7 @@
 --   parts-more, length-part       the addresses of one part more; how many a part has
 --   parts-room, lanes-room        a part ends where all parts do, or before
 --   part-inside, part-outside     all parts lie inside exactly if each does
+--   part-lane, check-inside, check-outside   the first lane outside; the address check
 use Prim.Native.Nat.{ℕ, zero, suc, _+_, _*_, _≤_, _<_}
 use mathlib.Core.Path.{_≡_, refl, sym, _∙_, ap}
 use mathlib.Core.List.{List, [], _∷_, _++_, map, append-assoc, append-nil, map-append}
@@ -21,10 +22,11 @@ use Rattle.engine.specs.Loops.{natural}
 use Rattle.engine.specs.Addresses.{inside}
 use Rattle.engine.specs.Memory.{valueAt, littleEndian, lanesFrom, joined, packed}
 use Rattle.engine.specs.PackedLaws.{length-lanes, length-joined, zeros, packed-front}
-use Rattle.engine.specs.Stretches.{progression, addressesIn, joinedIn, Part, allWithin, fetchedAt, storedAt}
+use Rattle.engine.specs.Stretches.{progression, addressesIn, joinedIn, Part, allWithin, laneWithout, checkedAt, fetchedAt, storedAt}
+use Rattle.engine.specs.declared.transfer.Addresses.the-variants.{Inside, Outside}
 use Rattle.engine.proofs.ByteSteps.{sets-append}
 use Rattle.engine.proofs.LaneSteps.{lane-room}
-use Rattle.engine.proofs.StretchSteps.{length-progression, map-at}
+use Rattle.engine.proofs.StretchSteps.{length-progression, map-at, lane-behind, lane-before}
 
 -- ---- in two pieces
 
@@ -152,6 +154,10 @@ pub parts-none : (len w : ℕ) → allWithin len w (joinedIn []) ≡ true
 unfolding allWithin joinedIn
 parts-none len w = refl
 
+pub parts-none-long : 0 ≡ length (joinedIn [])
+unfolding joinedIn
+parts-none-long = refl
+
 -- all parts inside: each is
 pub part-inside : (len w : ℕ) (parts : List (List ℤ)) (k m : ℕ) → k < m → m ≤ length parts → allWithin len w (joinedIn (take m parts)) ≡ true
     → allWithin len w (addressesIn (getD parts k [])) ≡ true
@@ -183,6 +189,28 @@ part-within len w parts k h e f =
     let l = joinedIn (take k parts) in
     let m = addressesIn (getD parts k []) in
     ap (allWithin len w) (parts-more parts k h) ∙ within-append len w l m ∙ and-both (allWithin len w l) (allWithin len w m) e f
+
+-- the first lane outside is in the first part that does not lie inside
+pub part-lane : (len w : ℕ) (parts : List (List ℤ)) (k m : ℕ) → k < m → m ≤ length parts → allWithin len w (joinedIn (take k parts)) ≡ true
+    → allWithin len w (addressesIn (getD parts k [])) ≡ false
+    → laneWithout len w (joinedIn (take m parts)) ≡ length (joinedIn (take k parts)) + laneWithout len w (addressesIn (getD parts k []))
+unfolding joinedIn
+part-lane len w [] k m h p e f = absurd (omega arith)
+part-lane len w (part ∷ parts) k zero h p e f = absurd (omega arith)
+part-lane len w (part ∷ parts) zero (suc m) h p e f = lane-before len w (addressesIn part) (joinedIn (take m parts)) f ∙ omega arith
+part-lane len w (part ∷ parts) (suc k) (suc m) h p e f =
+    let l = addressesIn part in
+    let g = both (allWithin len w l) (allWithin len w (joinedIn (take k parts))) (sym (within-append len w l (joinedIn (take k parts))) ∙ e) in
+    let n : length (l ++ joinedIn (take k parts)) ≡ length l + length (joinedIn (take k parts)) = length-append l (joinedIn (take k parts)) in
+    lane-behind len w l (joinedIn (take m parts)) (g .0)
+    ∙ omega (arith, n, part-lane len w parts k m (omega arith) (omega arith) (g .1) f)
+
+-- the address check by these
+pub check-inside : (len w : ℕ) (l : List ℤ) → allWithin len w l ≡ true → Inside ≡ checkedAt len w l
+check-inside len w l e = rw e
+
+pub check-outside : (len w : ℕ) (l : List ℤ) (n : ℕ) → allWithin len w l ≡ false → laneWithout len w l ≡ n → Outside n ≡ checkedAt len w l
+check-outside len w l n e f = rw (e, f)
 
 -- ---- lanes of a part
 

@@ -19,7 +19,7 @@ use Rattle.engine.specs.Registers.{isOpen, shapeOf, toCome, reg}
 use Rattle.engine.specs.Loops.{elements}
 use Rattle.engine.specs.Calculate.{World, refusalOf, effect, results, readFrom, writtenTo, memoryAfter}
 use Rattle.engine.specs.Operands.{whyOn, resultsOn, Calculated}
-use Rattle.engine.specs.Run.{Progress, counted, step, pass, execute}
+use Rattle.engine.specs.Run.{Progress, counted, step, pass, passBy, execute}
 use Rattle.engine.specs.Sheets.{isLoopRegister}
 use Rattle.engine.specs.Good.{AllGood, Good}
 use Rattle.engine.specs.CalculationLaws.{Named}
@@ -140,7 +140,7 @@ module _ (vl n : ℕ) (steps : List Placed) (p : ℕ) (rs₀ : List Register) (m
 -- a pass that is over
 pub passed : (vl n : ℕ) (steps : List Placed) (p : ℕ) (rs₀ : List Register) (memory₀ : List ℕ) (q₀ : ℕ) (rs : List Register) (memory : List ℕ) (q k : ℕ)
     → Passing vl n steps p rs₀ memory₀ q₀ rs memory q k → n ≤ k → pass vl (take n steps) (soFar rs₀ memory₀ p q₀) ≡ soFar rs memory p q
-unfolding pass
+unfolding passBy
 passed vl n steps p rs₀ memory₀ q₀ rs memory q k i h =
     sym (i .same) ∙ ap (λ cs. pass vl cs (soFar rs memory p q)) (lib.ListN.drop-of-length-le (take n steps) {i = k} (simp length-take (omega arith)))
 

@@ -98,6 +98,7 @@ module _ (s : List ℕ) (p : areBytes s) (os : List Operation) (at : ℕ) (m : M
 
 -- a sheet that ends in a run does its passes, which are in good order before the first
 pub record Runs (vl : ℕ) (s memory : List ℕ) (m : Machine) (loop : ℕ) (cs : List Placed) : Type 0 where
+  pub machine : prepare s freshMachine .machine ≡ m
   pub executes : run vl s memory ≡ execute vl loop cs (world m memory)
   pub running : Running vl loop cs (begun (world m memory))
   pub some : 1 ≤ length cs
@@ -110,6 +111,7 @@ sheet-runs vl s memory p os at m loop cs t f r l =
     let q = prepared s p os at m t (runs loop cs) e in
     let k : Passes freshMachine vl s memory loop cs = run-passes freshMachine vl s memory loop cs p (fresh-machine-good vl) (fits-allowed vl (length memory) .1 f) (ap (λ r. r .ending) q) in
     record {
+      machine = ap (λ r. r .machine) q;
       executes = answered s p os at m t vl memory (runs loop cs) f e;
       running = subst (λ r. Running vl loop cs (begun (world (r .machine) memory))) q (k .running);
       some = k .follows .some;
@@ -118,7 +120,7 @@ sheet-runs vl s memory p os at m loop cs t f r l =
 module _ (vl : ℕ) (s memory : List ℕ) (p : areBytes s) where
   -- a right answer is the run's
   only : (r : Progress) → Right vl s memory r → r ≡ run vl s memory
-  only r (Right.lengths n x k e) = e ∙ ap (λ y. refusedAt (world freshMachine memory) y 0) (is-numbered x 15 k) ∙ sym (run-lengths freshMachine vl s memory (fails _ (fits-allowed vl (length memory)) n))
+  only r (Right.lengths n x k e) = e ∙ ap (λ y. refusedAt (world freshMachine memory) y 0) (is-numbered x 15 k refl) ∙ sym (run-lengths freshMachine vl s memory (fails _ (fits-allowed vl (length memory)) n))
   only r (Right.over f os m t e) = e ∙ sym (answered s p os (length s) m t vl memory over f (over-from s p os (length s) m t refl))
   only r (Right.unread f os at m x t h u e) = e ∙ sym (answered s p os at m t vl memory (refused x at) f (unread-from s p os at m t x h u))
   only r (Right.refused f os at m o to x t w c e) = e ∙ sym (answered s p os at m t vl memory (refused x at) f (refused-from s p os at m t o to x w c))
@@ -126,9 +128,9 @@ module _ (vl : ℕ) (s memory : List ℕ) (p : areBytes s) where
       e
       ∙ sym (answered s p os at m t vl memory (refused x place) f (run-from s p os at m t loop count from (broken x place) w (body-broken s count from cs place x p b h u)))
   only r (Right.trailing f os at m loop cs to x t w h k e) =
-      e ∙ ap (λ y. refusedAt (world m memory) y to) (is-numbered x 2 k) ∙ sym (answered s p os at m t vl memory (refused OutOfRange to) f (trailing-from s p os at m t loop cs to w h))
+      e ∙ ap (λ y. refusedAt (world m memory) y to) (is-numbered x 2 k refl) ∙ sym (answered s p os at m t vl memory (refused OutOfRange to) f (trailing-from s p os at m t loop cs to w h))
   only r (Right.no-loop f os at m loop cs x t w n k e) =
-      e ∙ ap (λ y. refusedAt (world m memory) y at) (is-numbered x 16 k) ∙ sym (answered s p os at m t vl memory (refused LoopRegister at) f (last-from s p os at m t loop cs false w (fails _ (loops-on loop cs m) n)))
+      e ∙ ap (λ y. refusedAt (world m memory) y at) (is-numbered x 16 k refl) ∙ sym (answered s p os at m t vl memory (refused LoopRegister at) f (last-from s p os at m t loop cs false w (fails _ (loops-on loop cs m) n)))
   only r (Right.ran f os at m loop cs t w l h) =
       let k = sheet-runs vl s memory p os at m loop cs t f w l in
       ran-one vl loop cs (world m memory) (k .running) (k .some) r (execute vl loop cs (world m memory)) h

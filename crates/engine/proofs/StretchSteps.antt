@@ -2,7 +2,7 @@
 use Prim.Native.Nat.{ℕ, zero, suc, _+_, _-_, _*_, _≤_, _<_}
 use mathlib.Core.Path.{_≡_, refl, sym, _∙_, ap}
 use mathlib.Core.List.{List, [], _∷_, _++_, map}
-use mathlib.Core.Bool.{Bool, true, false}
+use mathlib.Core.Bool.{Bool, true, false, cond, _&&_}
 use native.Mathlib.Omega.{arith}
 use native.Mathlib.Numerals.{add-one}
 use native.Mathlib.Nat.{mul-le-mul-left, suc-mul, mul-comm}
@@ -24,7 +24,7 @@ use Rattle.engine.specs.PackedLaws.{length-lanes, zeros, joined-lanes, p
 use Rattle.engine.specs.Lanes.{lanewise}
 use Rattle.engine.specs.EffectLaws.{lanewise-length}
 use Rattle.engine.specs.ContentLaws.{lanewise-at}
-use Rattle.engine.specs.Stretches.{progression, allWithin, fetchedAt, storedAt}
+use Rattle.engine.specs.Stretches.{progression, allWithin, laneWithout, fetchedAt, storedAt}
 use Rattle.engine.proofs.ByteSteps.{sets-append}
 use Rattle.engine.proofs.PlaceSteps.{inside-room}
 use Rattle.engine.proofs.LaneSteps.{packed-more, packed-none, lane-from, lane-at}
@@ -125,6 +125,42 @@ row-inside len w a step n h p = go (inside len w (a +ℤ step *ℤ pos (n - 1)))
 pub row-outside : (len w : ℕ) (a step : ℤ) (n : ℕ) → 1 ≤ n → inside len w a ≡ false → allWithin len w (progression a step n) ≡ false
 row-outside len w a step n h e =
     outside-at len w (progression a step n) 0 (omega (arith, length-progression a step n)) (ap (inside len w) (row-at a step n 0 h ∙ further-none a step) ∙ e)
+
+-- ---- the first lane outside
+
+-- of a row with no element, of one whose first element lies outside, and of one whose first lies inside
+pub lane-none : (len w : ℕ) (a step : ℤ) (n : ℕ) → n ≡ 0 → laneWithout len w (progression a step n) ≡ 0
+unfolding progression laneWithout
+lane-none len w a step n e = rw e
+
+pub lane-here : (len w : ℕ) (a step : ℤ) (n : ℕ) → 0 < n → inside len w a ≡ false → laneWithout len w (progression a step n) ≡ 0
+unfolding progression laneWithout
+lane-here len w a step zero h e = absurd (omega arith)
+lane-here len w a step (suc n) h e = rw e
+
+pub lane-on : (len w : ℕ) (a step : ℤ) (n : ℕ) → 0 < n → inside len w a ≡ true → laneWithout len w (progression a step n) ≡ 1 + laneWithout len w (progression (a +ℤ step) step (n - 1))
+unfolding progression laneWithout
+lane-on len w a step zero h e = absurd (omega arith)
+lane-on len w a step (suc n) h e = let m : suc n - 1 ≡ n = omega arith in rw (e, m) (omega arith)
+
+-- behind addresses that all lie inside
+pub lane-behind : (len w : ℕ) (l m : List ℤ) → allWithin len w l ≡ true → laneWithout len w (l ++ m) ≡ length l + laneWithout len w m
+unfolding allWithin laneWithout
+lane-behind len w [] m e = omega arith
+lane-behind len w (a ∷ l) m e =
+    let h = both (inside len w a) (allWithin len w l) e in
+    rw (h .0) (omega (arith, lane-behind len w l m (h .1)))
+
+-- in front of any others, where not all lie inside
+pub lane-before : (len w : ℕ) (l m : List ℤ) → allWithin len w l ≡ false → laneWithout len w (l ++ m) ≡ laneWithout len w l
+unfolding allWithin laneWithout
+lane-before len w [] m e = never (sym e)
+lane-before len w (a ∷ l) m e = go (inside len w a) (λ f. lane-before len w l m f) e
+  where
+    go : (b : Bool) → (allWithin len w l ≡ false → laneWithout len w (l ++ m) ≡ laneWithout len w l) → (b && allWithin len w l) ≡ false
+        → cond b (suc (laneWithout len w (l ++ m))) 0 ≡ cond b (suc (laneWithout len w l)) 0
+    go true ih f = ap suc (ih f)
+    go false ih f = refl
 
 -- ---- one address more
 

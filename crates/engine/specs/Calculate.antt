@@ -2,14 +2,17 @@
 --
 --   World                    the machine and the memory
 --   given, results           the lanes of a source; those of the calculation
---   sourceChecks, destinationChecks, checksOn, refusalOf   why a calculation is refused
+--   allInside, laneOutside, outside   elements inside memory; the first lane outside
+--   sourceChecks, destinationChecks, insideCheck, checksOn, onNamed, refusalOf   why a calculation is refused
 --   readFrom, writtenTo, effect   what one that is not refused does
-use Prim.Native.Nat.{ℕ, _*_}
+use Prim.Native.Nat.{ℕ, suc, _*_}
 use mathlib.Core.List.{List, [], _∷_, _++_, map}
 use mathlib.Core.Bool.{Bool, true, cond, not, _&&_, _||_}
 use lib.ListN.{length, take}
 use lib.Dec.{eqb, ltb}
 use Rattle.codec.specs.declared.operation.Calculation.{Calculation}
+use Rattle.codec.specs.declared.refusal.Role.{Role}
+use Rattle.codec.specs.declared.refusal.Role.the-variants as role
 use Rattle.codec.specs.declared.refusal.Refusal.the-variants.{WrongState, StreamEnded, WrongKind, Widths, LaneCounts, Outside}
 use Rattle.engine.specs.Addresses.{address, inside}
 use Rattle.engine.specs.Memory.{fetch, stored, contents, holding}
@@ -43,6 +46,11 @@ unfoldable pub allInside : Pattern → ℕ → ℕ → List (List ℕ) → Bool
 allInside p width length [] = true
 allInside p width length (v ∷ vs) = inside length width (address p width v) && allInside p width length vs
 
+-- 02, 1/14: "which lane, counted from 0, is the first outside": how many elements stand before it, all of them inside
+unfoldable pub laneOutside : Pattern → ℕ → ℕ → List (List ℕ) → ℕ
+laneOutside p width length [] = 0
+laneOutside p width length (v ∷ vs) = cond (inside length width (address p width v)) (suc (laneOutside p width length vs)) 0
+
 -- an element that an open stream would move lies outside memory
 abbrev pub outside : ℕ → Register → List (List ℕ) → Bool
 outside length r vs = isOpen (r .state) && not (allInside (r .pattern) (r .width) length vs)
@@ -55,6 +63,10 @@ sourceChecks r = WrongState if isConfiguring (r .state) ∷ StreamEnded if isFin
 abbrev pub destinationChecks : Register → List Check
 destinationChecks r = WrongState if isConfiguring (r .state) ∷ StreamEnded if isFinished (r .state) ∷ WrongKind if openLoad r ∷ []
 
+-- an operand, 14: 02, 1/14: "which lane .. is the first outside, and whether the first source, second source or destination was at fault"
+abbrev pub insideCheck : Role → ℕ → Register → List (List ℕ) → Check
+insideCheck role len r vs = Outside (laneOutside (r .pattern) (r .width) len vs) role if outside len r vs
+
 -- "a calculation looks at first source, second source, destination in turn (5, 11, 10), then 12, 13, and 14 in that turn": on first
 -- source a, second source b, destination d, with n lanes of a and m of b
 abbrev pub checksOn : ℕ → ℕ → ℕ → ℕ → Register → Register → Register → List Check
@@ -64,21 +76,24 @@ checksOn vl len n m a b d =
     ++ destinationChecks d
     ++ Widths if (not (eqb (a .width) (b .width)) || openStore d && not (eqb (a .width) (d .width)))
     ∷ LaneCounts if (not (eqb n m) || openStore d && ltb (length (nextChunk vl d)) n)
-    ∷ Outside if outside len a (nextChunk vl a)
-    ∷ Outside if outside len b (nextChunk vl b)
-    ∷ Outside if outside len d (take n (nextChunk vl d))
+    ∷ insideCheck role.First len a (nextChunk vl a)
+    ∷ insideCheck role.Second len b (nextChunk vl b)
+    ∷ insideCheck role.Destination len d (take n (nextChunk vl d))
     ∷ []
 
--- why a calculation is refused, if it is: the first of its checks that applies
-unfoldable pub refusalOf : ℕ → Calculation → World → Why
-refusalOf vl c w =
-    firstOf
-    (checksOn vl (length (w .memory))
+-- of a calculation in a world: the memory's length, how many lanes its sources have, and the registers that it names
+abbrev pub onNamed : {A : Type 0} → (ℕ → ℕ → ℕ → ℕ → Register → Register → Register → A) → ℕ → Calculation → World → A
+onNamed f vl c w =
+    f vl (length (w .memory))
     (length (given vl (w .memory) (reg (w .machine) (c .first))))
     (length (given vl (w .memory) (reg (w .machine) (c .second))))
     (reg (w .machine) (c .first))
     (reg (w .machine) (c .second))
-    (reg (w .machine) (c .destination)))
+    (reg (w .machine) (c .destination))
+
+-- why a calculation is refused, if it is: the first of its checks that applies
+unfoldable pub refusalOf : ℕ → Calculation → World → Why
+refusalOf vl c w = firstOf (onNamed checksOn vl c w)
 
 -- a source after it: an open stream moved on by its chunk, which is now the register's content
 unfoldable pub readFrom : ℕ → List ℕ → Register → Register

@@ -1,9 +1,9 @@
 -- Laws of ordered checks.
 --
---   first-of                 the first check, or else the others
+--   first-of, first-behind   the first check, or else the others; other checks behind it
 --   orElse, first-append     the first of two lists joined is that of the first list, or else of the second
 --   first-stops, first-goes  by whether the first list refuses
-use mathlib.Core.Path.{_≡_, refl, _∙_}
+use mathlib.Core.Path.{_≡_, refl, _∙_, ap}
 use mathlib.Core.List.{List, [], _∷_, _++_}
 use mathlib.Core.Bool.{Bool, true, false, cond}
 use Rattle.codec.specs.declared.refusal.Refusal.{Refusal}
@@ -15,6 +15,11 @@ use Rattle.engine.specs.declared.check.Why.the-variants.{Nothing, Becaus
 pub first-of : (x : Refusal) (b : Bool) (cs : List Check) → firstOf (x if b ∷ cs) ≡ cond b (Because x) (firstOf cs)
 unfolding firstOf
 first-of x b cs = refl
+
+-- other checks behind one
+pub first-behind : (c : Check) (xs ys : List Check) → firstOf xs ≡ firstOf ys → firstOf (c ∷ xs) ≡ firstOf (c ∷ ys)
+unfolding firstOf
+first-behind c xs ys e = ap (cond (c .applies) (Because (c .refusal))) e
 
 -- a refusal, or else the other
 abbrev pub orElse : Why → Why → Why

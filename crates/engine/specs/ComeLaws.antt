@@ -5,6 +5,7 @@
 --   come-moved, come-holding, come-moved-holding   after a move; after other lanes
 --   split                         the first elements to come, and those to come after them
 --   next-front, next-lanes, next-within, next-some   the next chunk: the front of what is to come, at most the lanes, within the stream, not empty
+--   next-lane                     its lanes are the elements behind those that have moved
 --   stays                         an open stream that moves on by nothing is as it was
 --   IsStream, ended-stream, stream-moved        a stream that was ended
 --   open-some, none-shut, shut-finished, finished-exactly, finished-all   open where some are to come, finished where none are
@@ -15,8 +16,8 @@ use mathlib.Core.List.{List, [], _++_}
 use mathlib.Core.Bool.{Bool, true, false, cond, _||_}
 use native.Mathlib.Omega.{arith}
 use native.Mathlib.Nat.{le-div-iff-mul-le}
-use lib.ListN.{length, take, drop, length-take, length-drop, take-append-drop, drop-of-length-le}
-use lib.Seq.{drop-drop}
+use lib.ListN.{length, getD, take, drop, length-take, length-drop, take-append-drop, drop-of-length-le}
+use lib.Seq.{drop-drop, getD-take, getD-drop}
 use lib.Pow.{pow-pos}
 use lib.Dec.{leb}
 use borrow.Author.Tests.{leb-true, lt-leb}
@@ -101,6 +102,15 @@ pub next-within : (vl : ℕ) (r : Register) → Good vl r → isOpen (r .state) 
 next-within vl r g e =
     let a : length (nextChunk vl r) ≡ length (take (length (nextChunk vl r)) (toCome r)) = ap length (next-front vl r g e) in
     omega (arith, length-take (length (nextChunk vl r)) (toCome r), come-length r e, g .opened e .1)
+
+-- lane k of it is the element k behind those that have moved
+pub next-lane : (vl k : ℕ) (r : Register) → Good vl r → isOpen (r .state) ≡ true → k < length (nextChunk vl r)
+    → getD (nextChunk vl r) k [] ≡ getD (elements (shapeOf r)) (r .moved + k) []
+next-lane vl k r g e h =
+    ap (λ l. getD l k []) (next-front vl r g e)
+    ∙ getD-take (length (nextChunk vl r)) (toCome r) k [] h
+    ∙ ap (λ l. getD l k []) (come-open r e)
+    ∙ getD-drop (r .moved) (elements (shapeOf r)) k []
 
 -- it has an element
 pub next-some : (vl : ℕ) (r : Register) → 8 ≤ vl → Good vl r → isOpen (r .state) ≡ true → 0 < length (nextChunk vl r)

@@ -17,7 +17,7 @@ use Rattle.codec.specs.TestLaws.{both, and-both}
 use Rattle.codec.specs.declared.refusal.Refusal.{Refusal}
 use Rattle.engine.specs.Registers.{isOpen, isFinished, isLoad, toCome, reg}
 use Rattle.engine.specs.Calculate.{World}
-use Rattle.engine.specs.Run.{Progress, begun, unlessRefused, pass, counted, repeat, execute}
+use Rattle.engine.specs.Run.{Progress, begun, unlessRefused, pass, counted, repeat, repeatBy, execute}
 use Rattle.engine.specs.Sheets.{names, isLoopRegister}
 use Rattle.engine.specs.Good.{AllGood}
 use Rattle.engine.specs.ComeLaws.{IsStream, open-some, none-shut, shut-finished}
@@ -52,7 +52,7 @@ running-begun vl loop body w l h nm g e =
 module _ (vl loop : ℕ) (body : List Placed) where
   -- where the loop register's stream is not open a run does nothing
   pub repeat-shut : (n : ℕ) (g : Progress) → isOpen (reg (g .world .machine) loop .state) ≡ false → repeat vl loop body n g ≡ g
-  unfolding repeat
+  unfolding repeatBy
   repeat-shut zero g e = refl
   repeat-shut (suc n) g e =
       ap (λ b. cond b (unlessRefused (pass vl body g .verdict) (pass vl body g) (repeat vl loop body n (counted (pass vl body g)))) g) e
@@ -60,7 +60,7 @@ module _ (vl loop : ℕ) (body : List Placed) where
   -- where it is open a run does a pass, and the rest unless that is refused
   pub repeat-open : (n : ℕ) (g : Progress) → isOpen (reg (g .world .machine) loop .state) ≡ true
       → repeat vl loop body (suc n) g ≡ unlessRefused (pass vl body g .verdict) (pass vl body g) (repeat vl loop body n (counted (pass vl body g)))
-  unfolding repeat
+  unfolding repeatBy
   repeat-open n g e =
       ap (λ b. cond b (unlessRefused (pass vl body g .verdict) (pass vl body g) (repeat vl loop body n (counted (pass vl body g)))) g) e
 
@@ -95,7 +95,7 @@ module _ (vl loop : ℕ) (body : List Placed) where
   -- as many passes as there are elements to come are enough: if no calculation is refused, the stream is finished
   pub finishes : (n : ℕ) (g : Progress) → Running vl loop body g → length (toCome (reg (g .world .machine) loop)) ≤ n
       → repeat vl loop body n g .verdict ≡ Done → isFinished (reg (repeat vl loop body n g .world .machine) loop .state) ≡ true
-  unfolding repeat
+  unfolding repeatBy
   finishes zero g r h v = shut-finished (reg (g .world .machine) loop .state) (r .stream) (none-open g r h)
   finishes (suc n) g r h v =
       go (isOpen (reg (g .world .machine) loop .state)) refl (pass vl body g .verdict) refl v (finishes n (counted (pass vl body g)))
@@ -115,7 +115,7 @@ module _ (vl loop : ℕ) (body : List Placed) where
   -- more passes than there are elements to come change nothing
   pub enough : (n m : ℕ) (g : Progress) → Running vl loop body g → length (toCome (reg (g .world .machine) loop)) ≤ n
       → length (toCome (reg (g .world .machine) loop)) ≤ m → repeat vl loop body n g ≡ repeat vl loop body m g
-  unfolding repeat
+  unfolding repeatBy
   enough zero m g r h k = sym (repeat-shut m g (none-open g r h))
   enough (suc n) zero g r h k = repeat-shut (suc n) g (none-open g r k)
   enough (suc n) (suc m) g r h k =

@@ -98,9 +98,9 @@ module _ {A : Type 0} (refused : Refusal → A) (s : List ℕ) (p : areBytes s) 
   pub reads-fault : (x : Refusal) (at : ℕ) (before : List ℕ) (fs : List Range) → NumbersFault s x at before fs → reads refused s at before fs end ≡ refused x
   unfolding reads NumbersFault
   reads-fault x at before [] h = absurd h
-  reads-fault x at before (f ∷ fs) (NumberFault.unread e h) = rw (no-number s at p .1 h, is-numbered x 1 e)
+  reads-fault x at before (f ∷ fs) (NumberFault.unread e h) = rw (no-number s at p .1 h, is-numbered x 1 e refl)
   reads-fault x at before (f ∷ fs) (NumberFault.beyond n to e h k) =
-      rw (number-there s at n to h, fails (holds f before n) (holds-plain f before n) k, is-numbered x 2 e)
+      rw (number-there s at n to h, fails (holds f before n) (holds-plain f before n) k, is-numbered x 2 e refl)
   reads-fault x at before (f ∷ fs) (NumberFault.later n to h k l) =
       next-there at n to before f (λ n to. reads refused s to (n ∷ before) fs end) h k ∙ reads-fault x to (n ∷ before) fs l
 

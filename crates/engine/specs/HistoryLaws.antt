@@ -24,7 +24,7 @@ use Rattle.engine.specs.ComeLaws.{IsStream}
 use Rattle.engine.specs.CalculationLaws.{Named}
 use Rattle.engine.specs.EffectLaws.{effect-length}
 use Rattle.engine.specs.EffectGood.{effect-good}
-use Rattle.engine.specs.StreamLaws.{movedIn, once, pattern-stays, kind-stays, width-stays, stream-stays, moved-counts, read-some, unnamed}
+use Rattle.engine.specs.StreamLaws.{movedIn, once, pattern-stays, kind-stays, width-stays, stream-stays, stream-was, moved-counts, read-some, unnamed}
 use Rattle.engine.specs.declared.check.Why.the-variants.{Nothing}
 use Rattle.engine.specs.declared.run.Placed.{Placed}
 
@@ -121,6 +121,14 @@ unfolding afterAll Completed
 stream-kept vl [] w i h k s = s
 stream-kept vl (c ∷ cs) w i h k s =
     stream-kept vl cs (effect vl (c .calculation) w) i (next-length vl c w i h) (k .1) (stream-stays vl (c .calculation) w i h (k .0) s)
+
+-- and was one
+pub stream-from : (vl : ℕ) (cs : List Placed) (w : World) (i : ℕ) → i < length (w .machine .registers) → Completed vl w cs
+    → IsStream (reg (afterAll vl w cs .machine) i) → IsStream (reg (w .machine) i)
+unfolding afterAll Completed
+stream-from vl [] w i h k s = s
+stream-from vl (c ∷ cs) w i h k s =
+    stream-was vl (c .calculation) w i h (k .0) (stream-from vl cs (effect vl (c .calculation) w) i (next-length vl c w i h) (k .1) s)
 
 -- and keeps its width
 pub width-kept : (vl : ℕ) (cs : List Placed) (w : World) (i : ℕ) → i < length (w .machine .registers) → Completed vl w cs

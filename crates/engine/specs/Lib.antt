@@ -17,6 +17,7 @@ pub mod Lanes
 pub mod Calculate
 pub mod Run
 pub mod Sheets
+pub mod Before
 pub mod Bodies
 pub mod Good
 pub mod Walk
@@ -67,7 +68,9 @@ pub mod Offered
 pub mod Promise2
 pub mod AllowedLaws
 pub mod CalculatesLaws
+pub mod OutsideLaws
 pub mod ReasonLaws
+pub mod Blame
 pub mod ContentLaws
 pub mod FieldLaws
 pub mod ReadingLaws

@@ -1,5 +1,6 @@
 -- Operands against what a calculation says of registers.
 --
+--   operand-outside                                            14 of an operand
 --   source-count, source-outside, source-lanes, source-after   an operand that is a source
 --   target-count, target-outside, target-after, target-memory  one that is the destination
 use Prim.Native.Nat.{ℕ, _/_, _≤_, _<_, min}
@@ -11,14 +12,16 @@ use lib.ListN.{length, take, length-map, length-take}
 use lib.Dec.{ltb}
 use borrow.Author.Tests.{lt-ltb, le-ltb}
 use native.Mathlib.Decide.{decLt}
+use Rattle.codec.specs.declared.refusal.Role.{Role}
 use Rattle.engine.specs.Chunks.{chunk, streamGroups}
 use Rattle.engine.specs.ChunkLaws.{take-of-chunk}
 use Rattle.engine.specs.Memory.{fetch, stored, contents, holding}
-use Rattle.engine.specs.Calculate.{given, outside, readFrom, writtenTo, memoryAfter}
+use Rattle.engine.specs.Checks.{Check, firstOf}
+use Rattle.engine.specs.Calculate.{given, insideCheck, readFrom, writtenTo, memoryAfter}
 use Rattle.engine.specs.Registers.{isOpen, shapeOf, nextChunk, movedBy}
-use Rattle.engine.specs.Stretches.{allWithin, storedAt, within-elements, fetched-elements, stored-elements}
+use Rattle.engine.specs.Stretches.{addressesOf, storedAt, within-elements, lane-elements, fetched-elements, stored-elements}
 use Rattle.engine.specs.EffectLaws.{length-lanes}
-use Rattle.engine.specs.Operands.{Operand, Operates, lanesOf}
+use Rattle.engine.specs.Operands.{Operand, Operates, outsideAt, lanesOf}
 use Rattle.engine.specs.declared.stream.Pattern.{Pattern}
 use Rattle.engine.specs.declared.register.Register.{Register}
 
@@ -31,6 +34,17 @@ given-length vl memory r = go (isOpen (r .state))
     go true = length-map (nextChunk vl r) (fetch (r .pattern) (r .width) memory)
     go false = length-lanes (r .lanes) (r .width) 0 (r .valid)
 
+-- 14 at the addresses of the elements that an open stream would move is 14 of these
+operand-outside : (r : Register) (o : Operand) (vs : List (List ℕ)) → o .live ≡ isOpen (r .state)
+    → (isOpen (r .state) ≡ true → o .addresses ≡ addressesOf (r .pattern) (r .width) vs)
+    → (role : Role) (len : ℕ) (cs : List Check) → firstOf (outsideAt role len (r .width) (o .live) (o .addresses) ∷ cs) ≡ firstOf (insideCheck role len r vs ∷ cs)
+unfolding firstOf
+operand-outside r o vs told addressed role len cs = go (isOpen (r .state)) refl
+  where
+    go : (b : Bool) → isOpen (r .state) ≡ b → firstOf (outsideAt role len (r .width) (o .live) (o .addresses) ∷ cs) ≡ firstOf (insideCheck role len r vs ∷ cs)
+    go true e = rw (told ∙ e, e, addressed e, within-elements len (r .width) (r .pattern) vs, lane-elements len (r .width) (r .pattern) vs)
+    go false e = rw (told ∙ e, e)
+
 module _ (vl : ℕ) (memory : List ℕ) (r : Register) (o : Operand) (h : Operates r (vl / r .width) (r .valid) o) where
   -- as many lanes as it gives
   pub source-count : o .count ≡ length (given vl memory r)
@@ -38,13 +52,9 @@ module _ (vl : ℕ) (memory : List ℕ) (r : Register) (o : Operand) (h : Operat
   source-count = h .counted ∙ sym (given-length vl memory r)
 
   -- an element of it outside memory
-  pub source-outside : (len : ℕ) → (o .live && not (allWithin len (r .width) (o .addresses))) ≡ outside len r (nextChunk vl r)
+  pub source-outside : (role : Role) (len : ℕ) (cs : List Check) → firstOf (outsideAt role len (r .width) (o .live) (o .addresses) ∷ cs) ≡ firstOf (insideCheck role len r (nextChunk vl r) ∷ cs)
   unfolding nextChunk
-  source-outside len = go (isOpen (r .state)) refl
-    where
-      go : (b : Bool) → isOpen (r .state) ≡ b → (o .live && not (allWithin len (r .width) (o .addresses))) ≡ outside len r (nextChunk vl r)
-      go true e = rw (h .told ∙ e, e, h .addressed e, within-elements len (r .width) (r .pattern) (chunk (shapeOf r) (vl / r .width) (r .moved)))
-      go false e = rw (h .told ∙ e, e)
+  source-outside role len cs = operand-outside r o (chunk (shapeOf r) (vl / r .width) (r .moved)) (h .told) (h .addressed) role len cs
 
   -- its lanes
   pub source-lanes : lanesOf r o memory ≡ given vl memory r
@@ -100,12 +110,9 @@ module _ (vl n : ℕ) (d : Register) (o : Operand) (h : Operates d n n o) (l : i
       go false e = rw (h .told ∙ e, e)
 
   -- an element that it would write lies outside memory
-  pub target-outside : (len : ℕ) → (o .live && not (allWithin len (d .width) (o .addresses))) ≡ outside len d (take n (nextChunk vl d))
-  target-outside len = go (isOpen (d .state)) refl
-    where
-      go : (b : Bool) → isOpen (d .state) ≡ b → (o .live && not (allWithin len (d .width) (o .addresses))) ≡ outside len d (take n (nextChunk vl d))
-      go true e = rw (h .told ∙ e, e, h .addressed e, front e, within-elements len (d .width) (d .pattern) (chunk (shapeOf d) n (d .moved)))
-      go false e = rw (h .told ∙ e, e)
+  pub target-outside : (role : Role) (len : ℕ) (cs : List Check) → firstOf (outsideAt role len (d .width) (o .live) (o .addresses) ∷ cs) ≡ firstOf (insideCheck role len d (take n (nextChunk vl d)) ∷ cs)
+  target-outside role len cs =
+      operand-outside d o (take n (nextChunk vl d)) (h .told) (λ e. h .addressed e ∙ ap (addressesOf (d .pattern) (d .width)) (sym (front e))) role len cs
 
   module _ (xs : List ℕ) (long : length xs ≡ n) (room : isOpen (d .state) ≡ true → o .count ≡ n) where
     -- the register after it

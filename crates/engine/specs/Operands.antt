@@ -2,24 +2,27 @@
 --
 --   Operand, Operates              a register as an operand
 --   operandOf, Taken               the same as the code keeps it
+--   outsideAt, blamed              14 at addresses; of an operand
 --   lanesOf                        the lanes that an operand gives
 --   resultsOn, whyOn, Calculated   a calculation on three registers and a memory
 --   lanesOut, CarriedOut           the calculation carried out on operands
 use Prim.Native.Nat.{ℕ, _*_}
 use mathlib.Core.Path.{_≡_}
 use mathlib.Core.List.{List}
-use mathlib.Core.Bool.{Bool, true, cond}
+use mathlib.Core.Bool.{Bool, true, cond, not, _&&_}
 use lib.IntN.{ℤ}
 use lib.ListN.{length}
 use Rattle.codec.specs.declared.operation.Action.{Action}
+use Rattle.codec.specs.declared.refusal.Role.{Role}
+use Rattle.codec.specs.declared.refusal.Refusal.the-variants.{Outside}
 use Rattle.engine.specs.Chunks.{chunk}
 use Rattle.engine.specs.Lanes.{lane, lanewise}
 use Rattle.engine.specs.Memory.{contents, holding}
-use Rattle.engine.specs.Checks.{firstOf}
+use Rattle.engine.specs.Checks.{Check, _if_, firstOf}
 use Rattle.engine.specs.Configure.{unlessBecause}
 use Rattle.engine.specs.Calculate.{given, checksOn, readFrom, writtenTo, memoryAfter}
 use Rattle.engine.specs.Registers.{isOpen, shapeOf, movedBy}
-use Rattle.engine.specs.Stretches.{addressesOf, fetchedAt, storedAt, Parts}
+use Rattle.engine.specs.Stretches.{addressesOf, allWithin, laneWithout, fetchedAt, storedAt, Parts}
 use Rattle.engine.specs.Runnings.{viewOf, Remembers, listedIn, afterwards}
 use Rattle.engine.specs.declared.check.Why.{Why}
 use Rattle.engine.specs.declared.check.Why.the-variants.{Nothing}
@@ -52,6 +55,14 @@ pub record Taken (p : Pattern) (before : List ℕ) (q : Running) (most plain : �
   pub parts : Parts (o .parts) xs
   pub remembers : Remembers p row (afterwards o q)
   pub long : length xs ≡ 64
+
+-- 14 of an operand whose stream is open or not, at the addresses of the elements that it would move
+abbrev pub outsideAt : Role → ℕ → ℕ → Bool → List ℤ → Check
+outsideAt role len width live l = Outside (laneWithout len width l) role if (live && not (allWithin len width l))
+
+-- 14 of an operand as the code keeps it
+abbrev pub blamed : Role → ℕ → ℕ → Ahead → List (List ℤ) → Check
+blamed role len width o xs = outsideAt role len width (o .live) (listedIn o xs)
 
 -- the lanes that an operand gives: those in memory at its addresses, or the register's own
 abbrev pub lanesOf : Register → Operand → List ℕ → List ℕ

@@ -4,14 +4,18 @@
 --   extent-none, extent-some         of no element; of n + 1 elements: the first is at position 0, the last at position n
 --   outline-stream, outline-unended  of a stream that was ended, and of none
 --   outline-moved                    what has moved makes no difference
+--   located-some, located-none       the address of the element at a position; past the last there is none
+--   element-stream, element-unended, element-moved   the same of a register: of a stream that was ended, of none, whatever has moved
+--   element-lane                     a lane of the next chunk is the element so many behind those that have moved
 --   examples                         01's bench rows in outline
-use Prim.Native.Nat.{ℕ, suc, _-_, _≤_, _<_}
+use Prim.Native.Nat.{ℕ, suc, _+_, _-_, _≤_, _<_}
 use mathlib.Core.Path.{_≡_, refl, sym, _∙_, ap}
 use mathlib.Core.List.{[]}
-use mathlib.Core.Bool.{false, _||_}
+use mathlib.Core.Bool.{true, false, _||_}
 use native.Mathlib.Omega.{arith}
 use lib.ListN.{length, getD, length-map, List·getD-eq-default}
 use lib.IntN.{pos}
+use borrow.Author.Tests.{lt-ltb, le-ltb}
 use Rattle.codec.specs.Numbers.{groupsAt, numberAt, signedOf}
 use Rattle.codec.specs.Headers.{headerSaid, headerOf}
 use Rattle.codec.specs.Operations.{openAt, dimensionAt, modifierAt, endAt, operationAt}
@@ -21,17 +25,19 @@ use Rattle.engine.specs.Rules.{only, highs, lowOrHighFrom, product}
 use Rattle.engine.specs.Addresses.{noBytes, addressUpTo, address}
 use Rattle.engine.specs.Stretches.{addressesOf}
 use Rattle.engine.specs.Checks.{firstOf}
-use Rattle.engine.specs.Registers.{isOpen, isFinished, movedBy}
+use Rattle.engine.specs.Registers.{isOpen, isFinished, nextChunk, movedBy}
 use Rattle.engine.specs.Configure.{whyNot, configured}
 use Rattle.engine.specs.Sheets.{operationsFrom}
 use Rattle.engine.specs.WalkLaws.{getD-map}
-use Rattle.engine.specs.ComeLaws.{IsStream, stream-moved}
+use Rattle.engine.specs.Good.{Good}
+use Rattle.engine.specs.ComeLaws.{IsStream, stream-moved, next-lane, next-within}
 use Rattle.engine.specs.Table.{register, prepared, grown, triangle, words, three}
-use Rattle.engine.specs.Outlines.{addressAt, extentOf, outlineOf}
+use Rattle.engine.specs.Outlines.{addressAt, extentOf, outlineOf, locatedIn, elementOf}
 use Rattle.engine.specs.declared.stream.Pattern.{Pattern}
 use Rattle.engine.specs.declared.register.Register.{Register}
 use Rattle.engine.specs.declared.outline.Extent.{Extent}
 use Rattle.engine.specs.declared.outline.Outline.the-variants.{Unended, Stream}
+use Rattle.engine.specs.declared.outline.Located.the-variants.{Nowhere, At}
 
 -- dimensions, modifiers, elements, first and last address
 abbrev pub extent : ℕ → ℕ → ℕ → Bytes → Bytes → Extent
@@ -64,6 +70,16 @@ module _ (p : Pattern) (width : ℕ) where
       let l : length (elements (p .shape)) - 1 ≡ n = omega arith in
       λ i. extent (p .shape .dims) (p .shape .mods) (e i) (address-some 0 (omega arith) i) ((ap (addressAt p width) l ∙ address-some n (omega arith)) i)
 
+  -- the element at a position
+  pub located-some : (k : ℕ) → k < length (elements (p .shape)) → locatedIn p width k ≡ At (record { 0 = address p width (getD (elements (p .shape)) k []) })
+  unfolding locatedIn
+  located-some k h = rw (lt-ltb k (length (elements (p .shape))) h) (ap At (address-some k h))
+
+  -- past the last there is none
+  pub located-none : (k : ℕ) → length (elements (p .shape)) ≤ k → locatedIn p width k ≡ Nowhere
+  unfolding locatedIn
+  located-none k h = rw (le-ltb k (length (elements (p .shape))) h)
+
 -- of a stream that was ended
 pub outline-stream : (r : Register) → IsStream r → outlineOf r ≡ Stream (extentOf (r .pattern) (r .width))
 unfolding outlineOf
@@ -79,8 +95,33 @@ pub outline-moved : (n : ℕ) (r : Register) → IsStream r → outlineOf (moved
 unfolding movedBy
 outline-moved n r e = outline-stream (movedBy n r) (stream-moved n r) ∙ sym (outline-stream r e)
 
+module _ (n : ℕ) (r : Register) where
+  -- an element of a stream that was ended
+  pub element-stream : IsStream r → elementOf r n ≡ locatedIn (r .pattern) (r .width) n
+  unfolding elementOf
+  element-stream e = rw e
+
+  -- of none
+  pub element-unended : (isOpen (r .state) || isFinished (r .state)) ≡ false → elementOf r n ≡ Nowhere
+  unfolding elementOf
+  element-unended e = rw e
+
+-- a stream's elements stay, however many of them have moved
+pub element-moved : (k n : ℕ) (r : Register) → IsStream r → elementOf (movedBy k r) n ≡ elementOf r n
+unfolding movedBy
+element-moved k n r e = element-stream n (movedBy k r) (stream-moved k r) ∙ sym (element-stream n r e)
+
+-- a lane of an open stream's next chunk lies where the element does that comes so many behind those that have moved
+pub element-lane : (vl k : ℕ) (r : Register) → Good vl r → isOpen (r .state) ≡ true → k < length (nextChunk vl r)
+    → elementOf r (r .moved + k) ≡ At (record { 0 = address (r .pattern) (r .width) (getD (nextChunk vl r) k []) })
+element-lane vl k r g e h =
+    element-stream (r .moved + k) r (rw e)
+    ∙ located-some (r .pattern) (r .width) (r .moved + k) (omega (arith, next-within vl r g e))
+    ∙ ap (λ v. At (record { 0 = address (r .pattern) (r .width) v })) (sym (next-lane vl k r g e h))
+
 -- bytes, size 1 growing by 1 over four rows: 0 to 27; words, base 4, size 5, stride 2: 4 to 36. Behind the first, register 2 is being
--- configured, and register 3 has a stream without elements
+-- configured, and register 3 has a stream without elements. The sixth element of the first lies at 18, the fifth of the second, its last,
+-- at 36
 pub examples :
     (outlineOf (register 1 (prepared triangle)) ≡ Stream (extent 2 1 10 (record { 0 = pos 0 }) (record { 0 = pos 27 })))
     × (outlineOf (register 1 (prepared words)) ≡ Stream (extent 1 0 5 (record { 0 = pos 4 }) (record { 0 = pos 36 })))
@@ -88,8 +129,12 @@ pub examples :
     × (outlineOf (register 2 (prepared three)) ≡ Unended)
     × (outlineOf (register 3 (prepared three)) ≡ Stream (extent 1 0 0 noBytes noBytes))
     × (outlineOf (register 32 (prepared three)) ≡ Unended)
-unfolding extentOf outlineOf register prepared grown triangle words three
+    × (elementOf (register 1 (prepared triangle)) 5 ≡ At (record { 0 = pos 18 }))
+    × (elementOf (register 1 (prepared words)) 4 ≡ At (record { 0 = pos 36 }))
+    × (elementOf (register 1 (prepared words)) 5 ≡ Nowhere)
+    × (elementOf (register 2 (prepared three)) 0 ≡ Nowhere)
+unfolding extentOf outlineOf locatedIn elementOf register prepared grown triangle words three
     groupsAt numberAt signedOf headerSaid headerOf openAt dimensionAt modifierAt endAt operationAt
     sizeAt added span loops elements only highs lowOrHighFrom product
     addressUpTo firstOf movedBy whyNot configured operationsFrom
-examples = (refl, refl, refl, refl, refl, refl)
+examples = (refl, refl, refl, refl, refl, refl, refl, refl, refl, refl)

@@ -88,8 +88,8 @@ word-plain w x = (λ e. there (fixedBits w) (clearBits w) refl refl e, back)
     there false c a b e = WordFault.fixed (let q : x ≡ FixedBits = cc in ap numberOf q) (λ h. never (sym a ∙ fixed-plain w .1 h))
 
     back : WordFault w x → cond (fixedBits w) (cond (clearBits w) (word.Said (headerSaid w)) (word.Refused NotCarried)) (word.Refused FixedBits) ≡ word.Refused x
-    back (WordFault.fixed e n) = rw (fails (fixedBits w) (fixed-plain w) n, is-numbered x 3 e)
-    back (WordFault.carried e f n) = rw (fixed-plain w .1 f, fails (clearBits w) (carried-plain w) n, is-numbered x 4 e)
+    back (WordFault.fixed e n) = rw (fails (fixedBits w) (fixed-plain w) n, is-numbered x 3 e refl)
+    back (WordFault.carried e f n) = rw (fixed-plain w .1 f, fails (clearBits w) (carried-plain w) n, is-numbered x 4 e refl)
 
 -- ---- operations
 

@@ -4,25 +4,28 @@
 --   OpenRefused .. EndRefused              what each configuring operation is refused for
 --   OperationRefused                       any of them
 --   AsSource, AsDestination                what is wanted of a source, of a destination
+--   FirstOutside, WantedInside             the first lane outside; what 14 wants of an operand
 --   CalculationRefusedOn, CalculationRefused   what a calculation is refused for
 --   FlagRefused, EndOfStreamRefused        what the two questions are refused for
 use Prim.Native.Nat.{ℕ, _+_, _≤_, _<_}
 use mathlib.Core.Path.{_≡_}
 use mathlib.Core.Logic.{_⊎_}
-use lib.ListN.{length, take}
+use mathlib.Core.List.{List, []}
+use lib.ListN.{length, getD, take}
 use lib.IntN.{pos}
 use lib.Signed.{_≤ℤ_}
-use Rattle.codec.specs.Refusals.{numberOf}
+use Rattle.codec.specs.Refusals.{numberOf, laneOf, operandOf}
 use Rattle.codec.specs.declared.header.Kind.the-variants.{Load, Store}
 use Rattle.codec.specs.declared.operation.Operation.{Operation}
 use Rattle.codec.specs.declared.operation.Operation.the-variants as op
 use Rattle.codec.specs.declared.operation.Calculation.{Calculation}
 use Rattle.codec.specs.declared.refusal.Refusal.{Refusal}
 use Rattle.engine.specs.Rules.{highsOf, product}
+use Rattle.engine.specs.Addresses.{address}
 use Rattle.engine.specs.Registers.{shapeOf, nextChunk, reg}
 use Rattle.engine.specs.Configure.{Covers}
 use Rattle.engine.specs.Calculate.{World, given}
-use Rattle.engine.specs.Allowed.{Opens, lowOf, highOf, OpenLie}
+use Rattle.engine.specs.Allowed.{Opens, lowOf, highOf, Lies, OpenLie}
 use Rattle.engine.specs.declared.register.State.the-variants.{Configuring, Open, Finished}
 use Rattle.engine.specs.declared.register.Register.{Register}
 
@@ -76,6 +79,20 @@ abbrev pub AsDestination : Register → Refusal → Type 0 → Type 0
 AsDestination r x Later =
     Wanted x 5 (¬ (r .state ≡ Configuring)) (Wanted x 11 (¬ (r .state ≡ Finished)) (Wanted x 10 (r .state ≡ Open → r .kind ≡ Store) Later))
 
+-- 02, 1/14: "which lane, counted from 0, is the first outside": of the elements vs that an open stream would move, that of this lane lies
+-- outside memory, that of every lane before it inside
+pub record FirstOutside (len : ℕ) (r : Register) (vs : List (List ℕ)) (lane : ℕ) : Type 0 where
+  pub opened : r .state ≡ Open
+  pub moves : lane < length vs
+  pub lies : ¬ Lies len (r .width) (address (r .pattern) (r .width) (getD vs lane []))
+  pub before : (k : ℕ) → k < lane → Lies len (r .width) (address (r .pattern) (r .width) (getD vs k []))
+
+-- an operand, 14: its elements vs are wanted inside memory; where they are not, x has number 14, names the first lane outside, and has the
+-- operand's number: 0 for the first source, 1 for the second, 2 for the destination
+pub data WantedInside (x : Refusal) (operand len : ℕ) (r : Register) (vs : List (List ℕ)) (Later : Type 0) : Type 0 where
+  lacking : numberOf x ≡ 14 → operandOf x ≡ operand → FirstOutside len r vs (laneOf x) → WantedInside x operand len r vs Later
+  later : OpenLie len r vs → Later → WantedInside x operand len r vs Later
+
 -- "first source, second source, destination in turn (5, 11, 10), then 12, 13, and 14 in that turn": on first source a, second source b,
 -- destination d, with n lanes of a and m of b
 abbrev pub CalculationRefusedOn : ℕ → ℕ → ℕ → ℕ → Register → Register → Register → Refusal → Type 0
@@ -85,9 +102,9 @@ CalculationRefusedOn vl len n m a b d x =
     (AsDestination d x
     (Wanted x 12 ((a .width ≡ b .width) × (d .state ≡ Open → a .width ≡ d .width))
     (Wanted x 13 ((n ≡ m) × (d .state ≡ Open → n ≤ length (nextChunk vl d)))
-    (Wanted x 14 (OpenLie len a (nextChunk vl a))
-    (Wanted x 14 (OpenLie len b (nextChunk vl b))
-    (Wanted x 14 (OpenLie len d (take n (nextChunk vl d))) ⊥)))))))
+    (WantedInside x 0 len a (nextChunk vl a)
+    (WantedInside x 1 len b (nextChunk vl b)
+    (WantedInside x 2 len d (take n (nextChunk vl d)) ⊥)))))))
 
 -- a calculation is refused with x in a world: on the registers that it names
 abbrev pub CalculationRefused : ℕ → Calculation → World → Refusal → Type 0

@@ -14,7 +14,7 @@ use lib.ListN.{length, take, drop, length-append}
 use Rattle.codec.specs.declared.refusal.Refusal.{Refusal}
 use Rattle.engine.specs.Registers.{isOpen, reg}
 use Rattle.engine.specs.Calculate.{World, refusalOf, effect}
-use Rattle.engine.specs.Run.{Progress, stepped, unlessRefused, pass, counted, repeat}
+use Rattle.engine.specs.Run.{Progress, stepped, unlessRefused, pass, passBy, counted, repeat, repeatBy}
 use Rattle.engine.specs.Good.{AllGood}
 use Rattle.engine.specs.HistoryLaws.{AllNamed, Completed, afterAll, completed-append, after-append, after-good, times, named-append, named-times, named-take}
 use Rattle.engine.specs.declared.check.Why.{Why}
@@ -55,7 +55,7 @@ not-both x at v d e = absurd (let z : _≡_ {A = ℕ} 0 1 = cc in omega arith)
 
 -- what a pass did
 pub pass-ran : (vl : ℕ) (cs : List Placed) (g : Progress) → g .verdict ≡ Done → PassRan vl cs g (pass vl cs g)
-unfolding pass Completed afterAll
+unfolding passBy Completed afterAll
 pass-ran vl [] g v = record {
   rest = 0;
   completed = tt;
@@ -192,7 +192,7 @@ broken-ran vl loop body g h x at o e p = record {
 
 -- what the passes of a run did
 pub repeat-ran : (vl loop : ℕ) (body : List Placed) (n : ℕ) (g : Progress) → g .verdict ≡ Done → Repeats vl loop body g (repeat vl loop body n g)
-unfolding repeat
+unfolding repeatBy
 repeat-ran vl loop body zero g v = none-ran vl loop body g v
 repeat-ran vl loop body (suc n) g v =
     go (isOpen (reg (g .world .machine) loop .state)) refl (pass vl body g .verdict) refl (λ h e. repeat-ran vl loop body n h e)

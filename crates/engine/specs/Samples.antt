@@ -6,11 +6,13 @@
 --   patterns, operations          addresses; what each operation gives
 --   contents-left                 what registers hold
 --   resized, limits               low, high and product at their limits
+--   faultOf .. roomy, faults      lane and operand of 14
 use Prim.Native.Nat.{ℕ}
 use mathlib.Core.Path.{_≡_, refl}
 use mathlib.Core.List.{List, [], _∷_, _++_, map}
 use lib.ListN.{take, drop, replicate}
 use lib.IntN.{pos}
+use Rattle.codec.specs.Refusals.{numberOf, laneOf, operandOf}
 use Rattle.codec.specs.Numbers.{groupsAt, numberAt, signedOf}
 use Rattle.codec.specs.Headers.{headerSaid, headerOf}
 use Rattle.codec.specs.Operations.{openAt, dimensionAt, modifierAt, endAt, runAt, operationAt, calculationAt}
@@ -20,14 +22,16 @@ use Rattle.engine.specs.Rules.{only, highs, lowOrHighFrom, product}
 use Rattle.engine.specs.Addresses.{addressUpTo}
 use Rattle.engine.specs.Memory.{valueAt, littleEndian, stored, lanesFrom, joined, holding}
 use Rattle.engine.specs.Lanes.{lanewise}
-use Rattle.engine.specs.Calculate.{given, results, allInside, refusalOf, readFrom, writtenTo, memoryAfter, effect}
+use Rattle.engine.specs.Calculate.{given, results, allInside, laneOutside, refusalOf, readFrom, writtenTo, memoryAfter, effect}
 use Rattle.engine.specs.Checks.{firstOf}
 use Rattle.engine.specs.Registers.{nextChunk, movedBy, toCome}
 use Rattle.engine.specs.Configure.{whyNot, configured}
-use Rattle.engine.specs.Run.{Progress, pass, repeat}
+use Rattle.engine.specs.Run.{Progress, passBy, repeatBy}
 use Rattle.engine.specs.Sheets.{bodyAt, names, operationsFrom, run}
 use Rattle.engine.specs.Table.{done, refusal, answerOf, answer, register, prepared, addresses, copies, grown, triangle, words, twice, bytes}
 use Rattle.engine.specs.declared.register.Register.{Register}
+use Rattle.engine.specs.declared.run.Verdict.{Verdict}
+use Rattle.engine.specs.declared.run.Verdict.the-variants.{Done, Refused}
 
 -- ---- sheets
 
@@ -62,8 +66,8 @@ unfoldable pub ran : ℕ → List ℕ → List ℕ → Progress
 unfolding groupsAt numberAt signedOf headerSaid headerOf openAt dimensionAt modifierAt endAt runAt operationAt calculationAt
     sizeAt added span loops elements passes withElements groups leftAfter chunkOf differ height only highs lowOrHighFrom product
     addressUpTo valueAt littleEndian stored lanesFrom joined holding lanewise
-    given results allInside refusalOf readFrom writtenTo memoryAfter effect
-    firstOf nextChunk movedBy toCome whyNot configured pass repeat bodyAt names operationsFrom
+    given results allInside laneOutside refusalOf readFrom writtenTo memoryAfter effect
+    firstOf nextChunk movedBy toCome whyNot configured passBy repeatBy bodyAt names operationsFrom
 ran vl s memory = run vl s memory
 
 -- its memory afterwards, from byte 16 on
@@ -138,3 +142,42 @@ unfolding resized hollow answerOf answer
     groupsAt numberAt signedOf headerSaid headerOf openAt dimensionAt modifierAt endAt operationAt
     added only highs lowOrHighFrom product firstOf whyNot configured operationsFrom
 limits = (refl, refl, refl, refl, refl, refl, refl, refl)
+
+-- ---- 14
+
+-- of a verdict its number and, of a refusal, lane and operand
+unfoldable pub faultOf : Verdict → List ℕ
+faultOf Done = 0 ∷ []
+faultOf (Refused x place) = numberOf x ∷ laneOf x ∷ operandOf x ∷ []
+
+-- of a run
+unfoldable pub fault : Progress → List ℕ
+fault g = faultOf (g .verdict)
+
+-- bytes 4, -4, 5, -3: base 4; dimension 1 size 2, stride -8; dimension 2 size 2, stride 1
+unfoldable pub below : List ℕ
+below = 1 ∷ 0x8b ∷ 0x81 ∷ 1 ∷ 4 ∷ 2 ∷ 1 ∷ 0 ∷ 2 ∷ 15 ∷ 2 ∷ 1 ∷ 0 ∷ 2 ∷ 2 ∷ 4 ∷ 1 ∷ []
+
+-- a stream of register 1 added to itself
+unfoldable pub doubled : List ℕ
+doubled = 5 ∷ 1 ∷ 1 ∷ 1 ∷ 2 ∷ 1 ∷ 1 ∷ []
+
+-- the sheet of "Loop nests", whose store has 8 elements, from byte 16 on
+unfoldable pub roomy : List ℕ
+roomy = take 31 (operated 1) ++ (8 ∷ drop 32 (operated 1))
+
+-- "which lane, counted from 0, is the first outside, and whether the first source, second source or destination": three lanes each from
+-- bytes 0, 8 and 16 on, in memories that end in an operand; below 0 and inside in turn; a register named twice; a store's elements behind the
+-- lanes do not count; another refusal has neither
+pub faults :
+    (map (λ n. fault (ran 8 (operated 1) (bytes 0 n))) (0 ∷ 1 ∷ 2 ∷ []) ≡ (14 ∷ 0 ∷ 0 ∷ []) ∷ (14 ∷ 1 ∷ 0 ∷ []) ∷ (14 ∷ 2 ∷ 0 ∷ []) ∷ [])
+    × (map (λ n. fault (ran 8 (operated 1) (bytes 0 n))) (8 ∷ 9 ∷ 10 ∷ []) ≡ (14 ∷ 0 ∷ 1 ∷ []) ∷ (14 ∷ 1 ∷ 1 ∷ []) ∷ (14 ∷ 2 ∷ 1 ∷ []) ∷ [])
+    × (map (λ n. fault (ran 8 (operated 1) (bytes 0 n))) (16 ∷ 17 ∷ 18 ∷ []) ≡ (14 ∷ 0 ∷ 2 ∷ []) ∷ (14 ∷ 1 ∷ 2 ∷ []) ∷ (14 ∷ 2 ∷ 2 ∷ []) ∷ [])
+    × (fault (ran 8 (below ++ copies) (bytes 0 20)) ≡ 14 ∷ 1 ∷ 0 ∷ [])
+    × (fault (ran 16 (words ++ doubled) (bytes 0 23)) ≡ 14 ∷ 2 ∷ 0 ∷ [])
+    × (fault (ran 16 (words ++ doubled) (bytes 0 39)) ≡ 14 ∷ 0 ∷ 0 ∷ [])
+    × (fault (ran 8 roomy (bytes 0 19)) ≡ 0 ∷ [])
+    × (fault (ran 8 roomy (bytes 0 18)) ≡ 14 ∷ 2 ∷ 2 ∷ [])
+    × (fault (ran 12 words []) ≡ 15 ∷ 0 ∷ 0 ∷ [])
+unfolding faultOf fault below doubled roomy operated copies words bytes ran
+faults = (refl, refl, refl, refl, refl, refl, refl, refl, refl)

@@ -4,7 +4,7 @@
 --   names, isLoopRegister    what 16 looks at
 --   endingOf                 the run, once its body is read
 --   operationsFrom, prepare  the operations of a sheet, up to its end, its run or a refusal
---   allowed, runFrom, run    the sheet's answer
+--   allowed, runBy, runFrom, run    the sheet's answer
 use Prim.Native.Nat.{ℕ, zero, suc, _%_}
 use mathlib.Core.List.{List, [], _∷_}
 use mathlib.Core.Bool.{Bool, false, cond, _&&_, _||_}
@@ -20,8 +20,8 @@ use Rattle.codec.specs.declared.refusal.Refusal.{Refusal}
 use Rattle.codec.specs.declared.refusal.Refusal.the-variants.{OutOfRange, Lengths, LoopRegister}
 use Rattle.engine.specs.Registers.{isOpen, isFinished, isLoad, reg, freshMachine}
 use Rattle.engine.specs.Configure.{whyNot, configured}
-use Rattle.engine.specs.Calculate.{World}
-use Rattle.engine.specs.Run.{Progress, begun, execute}
+use Rattle.engine.specs.Calculate.{World, refusalOf}
+use Rattle.engine.specs.Run.{Progress, Reason, begun, executeBy}
 use Rattle.engine.specs.declared.check.Why.{Why}
 use Rattle.engine.specs.declared.check.Why.the-variants.{Nothing, Because}
 use Rattle.engine.specs.declared.register.Machine.{Machine}
@@ -115,17 +115,25 @@ abbrev pub refusedAt : World → Refusal → ℕ → Progress
 refusedAt w x place = record { world = w; report = record { passes = 0; calculations = 0 }; verdict = Refused x place }
 
 -- the run, unless an operation was refused
+abbrev pub onEndingBy : Reason → ℕ → World → Ending → Progress
+onEndingBy why vl w over = begun w
+onEndingBy why vl w (runs loop cs) = executeBy why vl loop cs w
+onEndingBy why vl w (refused x place) = refusedAt w x place
+
+-- the same by the checks of a calculation
 abbrev pub onEnding : ℕ → World → Ending → Progress
-onEnding vl w over = begun w
-onEnding vl w (runs loop cs) = execute vl loop cs w
-onEnding vl w (refused x place) = refusedAt w x place
+onEnding = onEndingBy refusalOf
 
 -- a sheet from given registers; "15 comes first", place 0
-abbrev pub runFrom : Machine → ℕ → List ℕ → List ℕ → Progress
-runFrom m vl s memory =
+abbrev pub runBy : Reason → Machine → ℕ → List ℕ → List ℕ → Progress
+runBy why m vl s memory =
     cond (allowed vl (length memory))
-    (onEnding vl (record { machine = prepare s m .machine; memory = memory }) (prepare s m .ending))
+    (onEndingBy why vl (record { machine = prepare s m .machine; memory = memory }) (prepare s m .ending))
     (refusedAt (record { machine = m; memory = memory }) Lengths 0)
+
+-- the same by the checks of a calculation
+abbrev pub runFrom : Machine → ℕ → List ℕ → List ℕ → Progress
+runFrom = runBy refusalOf
 
 -- "A sheet starts with 32 fresh ones"
 abbrev pub run : ℕ → List ℕ → List ℕ → Progress

@@ -9,7 +9,7 @@ use Prim.Native.Nat.{ℕ}
 use lib.ListN.{take}
 use Rattle.codec.specs.declared.refusal.Refusal.{Refusal}
 use Rattle.engine.specs.Calculate.{refusalOf, effect}
-use Rattle.engine.specs.Run.{Progress, stepped, step, unlessRefused, pass}
+use Rattle.engine.specs.Run.{Progress, stepped, step, unlessRefused, pass, passBy}
 use Rattle.engine.specs.Good.{AllGood}
 use Rattle.engine.specs.CalculationLaws.{Named}
 use Rattle.engine.specs.EffectGood.{effect-good}
@@ -32,12 +32,12 @@ step-refused vl c g x e = ap (λ y. stepped y (c .place) (effect vl (c .calculat
 
 -- a pass goes on after a calculation that is done
 pub pass-next : (vl : ℕ) (c : Placed) (cs : List Placed) (g : Progress) → step vl c g .verdict ≡ Done → pass vl (c ∷ cs) g ≡ pass vl cs (step vl c g)
-unfolding pass
+unfolding passBy
 pass-next vl c cs g e = ap (λ d. unlessRefused d (step vl c g) (pass vl cs (step vl c g))) e
 
 -- it stops at a refused one
 pub pass-stop : (vl : ℕ) (c : Placed) (cs : List Placed) (g : Progress) (x : Refusal) (at : ℕ) → step vl c g .verdict ≡ Refused x at → pass vl (c ∷ cs) g ≡ step vl c g
-unfolding pass
+unfolding passBy
 pass-stop vl c cs g x at e = ap (λ d. unlessRefused d (step vl c g) (pass vl cs (step vl c g))) e
 
 -- the registers are good after a step, refused or not

@@ -3,7 +3,7 @@
 --   movedIn                            the elements of a register that a calculation moves
 --   Ways, goes                         the four ways that a register can go
 --   once                               the elements moved, then those to come, are those that were to come
---   pattern-stays, kind-stays, width-stays, stream-stays   a stream keeps its pattern, kind and width, and stays one
+--   pattern-stays, kind-stays, width-stays, stream-stays, stream-was   a stream keeps its pattern, kind and width, stays one, and was one
 --   moved-counts                       the elements moved are counted
 --   load-moves, store-moves            a load named as a source moves its next chunk; the store that is the destination the front of it
 --   shut-idle, unnamed-idle            one that is not open, or not named, moves nothing
@@ -206,6 +206,13 @@ module _ (vl : ℕ) (c : Calculation) (w : World) (i : ℕ) (h : i < length (w .
   stream-stays s =
       goes vl c w i (λ q l. IsStream q) h e
       (record { idle = s; kept = λ o f. never (no-stream o f s); loaded = λ o. stream-moved _ _; stored = λ o k. stream-moved _ _ })
+
+  -- and was one
+  pub stream-was : IsStream (reg (effect vl c w .machine) i) → IsStream (reg (w .machine) i)
+  unfolding holding
+  stream-was =
+      goes vl c w i (λ q l. IsStream q → IsStream (reg (w .machine) i)) h e
+      (record { idle = λ s. s; kept = λ o f s. s; loaded = λ o s. rw o; stored = λ o k s. rw o })
 
 -- a load that is read moves at least one element
 pub read-some : (vl : ℕ) (c : Calculation) (w : World) (i : ℕ) → 8 ≤ vl → Good vl (reg (w .machine) i) → openLoad (reg (w .machine) i) ≡ true

@@ -3,20 +3,23 @@
 --   progression                          addresses a step apart
 --   addressesIn, joinedIn, Part, Parts   the addresses of a part of a chunk, of all its parts; parts that are far from overflowing
 --   addressesOf                          the addresses of elements
---   allWithin, fetchedAt, storedAt       every address lies inside memory; the values there; memory after lanes were written there
---   within-elements, fetched-elements, stored-elements   at the addresses of elements: what a calculation says of the elements
+--   allWithin, laneWithout, checkedAt    every address lies inside memory; the first lane whose address does not; one or the other
+--   fetchedAt, storedAt                  the values there; memory after lanes were written there
+--   within-elements, lane-elements, fetched-elements, stored-elements   at the addresses of elements: what a calculation says of the elements
 use Prim.Native.Nat.{ℕ, zero, suc, _≤_, _<_, _^_}
 use mathlib.Core.Path.{_≡_, refl, ap}
 use mathlib.Core.List.{List, [], _∷_, _++_, map}
-use mathlib.Core.Bool.{Bool, true, _&&_}
+use mathlib.Core.Bool.{Bool, true, cond, _&&_}
 use lib.ListN.{length, getD}
 use lib.Seq.{sets}
 use lib.IntN.{ℤ, pos, natAbs, _+ℤ_}
 use Rattle.engine.specs.Loops.{natural}
 use Rattle.engine.specs.Addresses.{address, inside}
 use Rattle.engine.specs.Memory.{valueAt, littleEndian, spot, fetch, stored}
-use Rattle.engine.specs.Calculate.{allInside}
+use Rattle.engine.specs.Calculate.{allInside, laneOutside}
 use Rattle.engine.specs.declared.stream.Pattern.{Pattern}
+use Rattle.engine.specs.declared.transfer.Addresses.{Addresses}
+use Rattle.engine.specs.declared.transfer.Addresses.the-variants.{Inside, Outside}
 
 -- n addresses from a on, a step apart
 unfoldable pub progression : ℤ → ℤ → ℕ → List ℤ
@@ -53,6 +56,15 @@ unfoldable pub allWithin : ℕ → ℕ → List ℤ → Bool
 allWithin length width [] = true
 allWithin length width (a ∷ rest) = inside length width a && allWithin length width rest
 
+-- how many addresses stand before the first that lies outside memory
+unfoldable pub laneWithout : ℕ → ℕ → List ℤ → ℕ
+laneWithout length width [] = 0
+laneWithout length width (a ∷ rest) = cond (inside length width a) (suc (laneWithout length width rest)) 0
+
+-- the address check: every address lies inside memory, or the first lane whose address does not
+abbrev pub checkedAt : ℕ → ℕ → List ℤ → Addresses
+checkedAt length width l = cond (allWithin length width l) Inside (Outside (laneWithout length width l))
+
 -- the values at addresses
 abbrev pub fetchedAt : List ℕ → ℕ → List ℤ → List ℕ
 fetchedAt memory width addresses = map (λ a. valueAt memory (natural a) width) addresses
@@ -68,6 +80,12 @@ pub within-elements : (length width : ℕ) (p : Pattern) (vs : List (List ℕ)) 
 unfolding allWithin allInside
 within-elements length width p [] = refl
 within-elements length width p (v ∷ vs) = ap (λ t. inside length width (address p width v) && t) (within-elements length width p vs)
+
+-- the first of them outside is the first element outside
+pub lane-elements : (length width : ℕ) (p : Pattern) (vs : List (List ℕ)) → laneWithout length width (addressesOf p width vs) ≡ laneOutside p width length vs
+unfolding laneWithout laneOutside
+lane-elements length width p [] = refl
+lane-elements length width p (v ∷ vs) = ap (λ n. cond (inside length width (address p width v)) (suc n) 0) (lane-elements length width p vs)
 
 -- the values at the addresses of elements are the elements' values
 pub fetched-elements : (memory : List ℕ) (width : ℕ) (p : Pattern) (vs : List (List ℕ)) → fetchedAt memory width (addressesOf p width vs) ≡ map (fetch p width memory) vs

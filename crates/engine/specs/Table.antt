@@ -30,7 +30,7 @@ use Rattle.engine.specs.Checks.{firstOf}
 use Rattle.engine.specs.Registers.{freshMachine, reg, shapeOf, nextChunk, movedBy, toCome}
 use Rattle.engine.specs.Configure.{whyNot, configured}
 use Rattle.engine.specs.Questions.{askFlag, askEnd}
-use Rattle.engine.specs.Run.{Progress, begun, counted, pass, repeat}
+use Rattle.engine.specs.Run.{Progress, begun, counted, pass, passBy, repeatBy}
 use Rattle.engine.specs.Sheets.{bodyAt, names, Ending, over, runs, refused, operationsFrom, prepare, run}
 use Rattle.engine.specs.declared.check.Told.{Told}
 use Rattle.engine.specs.declared.check.Told.the-variants.{Yes, No, Untold}
@@ -206,7 +206,7 @@ unfolding answerOf answer heard askedFlag askedEnd register prepared addresses s
     sizeAt added span loops elements passes withElements groups leftAfter chunkOf differ height only highs lowOrHighFrom product
     addressUpTo valueAt littleEndian stored lanesFrom joined holding lanewise
     given results allInside refusalOf readFrom writtenTo memoryAfter effect
-    firstOf nextChunk movedBy toCome whyNot configured askFlag askEnd pass repeat bodyAt names operationsFrom
+    firstOf nextChunk movedBy toCome whyNot configured askFlag askEnd passBy repeatBy bodyAt names operationsFrom
 rows = (refl, refl, refl, refl, refl, refl, refl, refl, refl, refl, refl, refl, refl, refl, refl, refl, refl)
 
 -- what the reads of 40 and 39 bytes leave; the sheet of "Loop nests" adds three bytes; a loop register that the body names twice; the two
@@ -230,5 +230,5 @@ unfolding answerOf answer heard askedFlag askedEnd register prepared copies grow
     sizeAt added span loops elements passes withElements groups leftAfter chunkOf differ height only highs lowOrHighFrom product
     addressUpTo valueAt littleEndian stored lanesFrom joined holding lanewise
     given results allInside refusalOf readFrom writtenTo memoryAfter effect
-    firstOf nextChunk movedBy toCome whyNot configured askFlag askEnd pass repeat bodyAt names operationsFrom
+    firstOf nextChunk movedBy toCome whyNot configured askFlag askEnd passBy repeatBy bodyAt names operationsFrom
 examples = (refl, refl, refl, refl, refl, refl, refl, refl, refl, refl, refl, refl)

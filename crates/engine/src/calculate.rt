@@ -18,6 +18,7 @@ use crate::transfer::read_parts;
 use crate::transfer::write_parts;
 use codec::operation::Action;
 use codec::refusal::Refusal;
+use codec::refusal::Role;
 ghost use mathlib.Core.Path.{_≡_};
 ghost use mathlib.Core.Bool.{true, false, not, cond, _&&_, _||_};
 ghost use Prim.Native.Nat.{_+_, _*_, _/_, _^_, _≤_, _<_};
@@ -122,15 +123,18 @@ pub(crate) fn check_calculation(
     if lanes_differ(n, y.count, z) {
         return refused(Why::Because(Refusal::LaneCounts));
     }
-    if outside(x, a.width, len, xs) {
-        return refused(Why::Because(Refusal::Outside));
-    }
-    if second_outside(same, y, b.width, len, ys) {
-        return refused(Why::Because(Refusal::Outside));
-    }
-    if outside(z, d.width, len, zs) {
-        return refused(Why::Because(Refusal::Outside));
-    }
+    let one = outside(Role::First, x, a.width, len, xs);
+    let Why::Nothing = one else {
+        return refused(one);
+    };
+    let other = second_outside(same, y, b.width, len, ys);
+    let Why::Nothing = other else {
+        return refused(other);
+    };
+    let last = outside(Role::Destination, z, d.width, len, zs);
+    let Why::Nothing = last else {
+        return refused(last);
+    };
     Checked {
         why: Why::Nothing,
         first: x,

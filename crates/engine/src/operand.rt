@@ -3,24 +3,31 @@ use crate::ahead::Ahead;
 use crate::ahead::across;
 use crate::ahead::in_row;
 use crate::ahead::stays;
+use crate::check::Why;
 use crate::register::is_open;
 use crate::running::Running;
 use crate::running::again;
 use crate::running::moved_on;
-use crate::transfer::parts_within;
+use crate::transfer::Addresses;
+use crate::transfer::check_addresses;
 use codec::amounts::Bytes;
+use codec::refusal::Refusal;
+use codec::refusal::Role;
 ghost use mathlib.Core.Path.{_≡_};
-ghost use mathlib.Core.List.{[]};
-ghost use mathlib.Core.Bool.{true, false, cond, not, _&&_};
+ghost use mathlib.Core.List.{[], _∷_};
+ghost use mathlib.Core.Bool.{true, false, cond};
 ghost use Prim.Native.Nat.{_+_, _≤_, _<_, _^_};
 ghost use lib.ListN.{length};
 ghost use lib.IntN.{pos};
+ghost use Rattle.codec.specs.declared.refusal.Role.the-variants as role;
+ghost use Rattle.engine.specs.Checks.{firstOf};
+ghost use Rattle.engine.specs.declared.check.Why.the-variants.{Nothing};
 ghost use Rattle.engine.specs.Registers.{isOpen};
 ghost use Rattle.engine.specs.Places.{Ready};
 ghost use Rattle.engine.specs.Rows.{patternIn};
-ghost use Rattle.engine.specs.Stretches.{allWithin, Parts};
+ghost use Rattle.engine.specs.Stretches.{Parts};
 ghost use Rattle.engine.specs.Runnings.{viewOf, Remembers, listedIn, filledWith, afterwards};
-ghost use Rattle.engine.specs.Operands.{Taken};
+ghost use Rattle.engine.specs.Operands.{Taken, blamed};
 
 // A register that is no open stream: so many lanes, and nothing moves.
 pub(crate) fn unmoved(plain: usize) -> Ahead
@@ -111,15 +118,18 @@ pub(crate) fn as_destination(
     across(again(r), n, shape, places, index, parts)
 }
 
-// Whether an element that an open stream would move lies outside memory.
-pub(crate) fn outside(o: Ahead, width: u64, len: usize, parts: &[[i64; 3]; 64]) -> bool
+// 14: an element that an open stream would move lies outside memory. It names the first lane that does.
+pub(crate) fn outside(role: Role, o: Ahead, width: u64, len: usize, parts: &[[i64; 3]; 64]) -> Why
     requires { ⌜ (width ≤ 8) × Parts (o .parts) (now parts) ⌝ }
-    ensures { λ q. ⌜ q ≡ (o .live && not (allWithin len width (listedIn o (now (parts .entry))))) ⌝ }
+    ensures { λ q. ⌜ q ≡ firstOf (blamed role len width o (now (parts .entry)) ∷ []) ⌝ }
 {
     if !o.live {
-        return false;
+        return Why::Nothing;
     }
-    !parts_within(parts, o.parts, width, len)
+    match check_addresses(parts, o.parts, width, len) {
+        Addresses::Inside => Why::Nothing,
+        Addresses::Outside(lane) => Why::Because(Refusal::Outside(lane, role)),
+    }
 }
 
 // The same of the second source, unless it is the first once more.
@@ -129,14 +139,14 @@ pub(crate) fn second_outside(
     width: u64,
     len: usize,
     parts: &[[i64; 3]; 64],
-) -> bool
+) -> Why
     requires { ⌜ (width ≤ 8) × (same ≡ false → Parts (o .parts) (now parts)) ⌝ }
-    ensures { λ q. ⌜ q ≡ (not same && (o .live && not (allWithin len width (listedIn o (now (parts .entry)))))) ⌝ }
+    ensures { λ q. ⌜ q ≡ cond same Nothing (firstOf (blamed role.Second len width o (now (parts .entry)) ∷ [])) ⌝ }
 {
     if same {
-        return false;
+        return Why::Nothing;
     }
-    outside(o, width, len, parts)
+    outside(Role::Second, o, width, len, parts)
 }
 
 // A register with so many lanes of a width as its content.

@@ -21,7 +21,13 @@ ghost use Rattle.engine.specs.Addresses.{inside};
 ghost use Rattle.engine.specs.Memory.{valueAt, littleEndian, lanesFrom, joined, packed};
 ghost use Rattle.engine.specs.ByteLaws.{Bytewise};
 ghost use Rattle.engine.specs.Lanes.{lane, lanewise};
-ghost use Rattle.engine.specs.Stretches.{progression, joinedIn, Part, allWithin, fetchedAt, storedAt};
+ghost use Rattle.engine.specs.Stretches.{progression, joinedIn, Part, allWithin, laneWithout, checkedAt, fetchedAt, storedAt};
+
+// What the address check found: every element lies inside, or the first lane outside, counted from 0.
+pub(crate) enum Addresses {
+    Inside,
+    Outside(usize),
+}
 
 // Whether all elements of a row lie inside a memory of `len` bytes: its first and its last do.
 fn row_within(start: Bytes, step: Bytes, n: usize, width: u64, len: usize) -> bool
@@ -63,22 +69,43 @@ fn count_of(parts: &[[i64; 3]], k: usize) -> usize
     p[2] as usize
 }
 
-// Whether all elements of the first `m` parts lie inside.
-pub(crate) fn parts_within(parts: &[[i64; 3]; 64], m: usize, width: u64, len: usize) -> bool
+// How many elements of a row stand before the first that lies outside.
+fn lane_outside(start: Bytes, step: Bytes, n: usize, width: u64, len: usize) -> usize
+    requires { ⌜ (n ≤ 64) × ((width ≤ 8) × ((natAbs (start .0) ≤ 2 ^ 55) × (natAbs (step .0) ≤ 2 ^ 51))) ⌝ }
+    ensures { λ r. ⌜ (r ≡ laneWithout len width (progression (start .0) (step .0) n)) × (r ≤ n) ⌝ }
+{
+    let mut a = start;
+    let mut k = 0;
+    while k < n {
+        if !inside(a, width, len) {
+            return k;
+        }
+        a = plus(a, step);
+        k += 1;
+    }
+    n
+}
+
+// The address check, on the elements of the first `m` parts.
+pub(crate) fn check_addresses(parts: &[[i64; 3]; 64], m: usize, width: u64, len: usize) -> Addresses
     requires { ⌜ (m ≤ 64) × ((width ≤ 8) × ((k : ℕ) → k < m → Part (getD (now parts) k []))) ⌝ }
-    ensures { λ r. ⌜ r ≡ allWithin len width (joinedIn (take m (now (parts .entry)))) ⌝ }
+    ensures { λ r. ⌜ r ≡ checkedAt len width (joinedIn (take m (now (parts .entry)))) ⌝ }
 {
     let mut k = 0;
+    // how many elements the parts before part k have
+    let mut passed = 0;
     while k < m {
         let start = start_of(parts, k);
         let step = step_of(parts, k);
         let n = count_of(parts, k);
         if !row_within(start, step, n, width, len) {
-            return false;
+            let lane = lane_outside(start, step, n, width, len);
+            return Addresses::Outside(passed + lane);
         }
+        passed += n;
         k += 1;
     }
-    true
+    Addresses::Inside
 }
 
 // Copies `n` bytes, from `a` on, to where `b` is. Whoever copies one learns that they are bytes.

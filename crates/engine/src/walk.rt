@@ -70,3 +70,21 @@ pub(crate) fn next(shape: &[u64; 51], index: &mut [u64; 7]) -> bool
     index[0] = i + 1;
     seek(shape, index, 0)
 }
+
+// To the element at a position, counted from 0: whether there is one.
+pub(crate) fn nth(shape: &[u64; 51], index: &mut [u64; 7], n: u64) -> bool
+    requires { ⌜ Accepted (shapeIn (now shape)) ⌝ }
+    ensures { λ found. ⌜ Stands (shapeIn (now (shape .entry))) n found (now (index .exit)) ⌝ }
+{
+    if !first(shape, index) {
+        return false;
+    }
+    let mut k: u64 = 0;
+    while k < n {
+        if !next(shape, index) {
+            return false;
+        }
+        k += 1;
+    }
+    true
+}

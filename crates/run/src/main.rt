@@ -1,4 +1,5 @@
 // Runs a sheet file on a copy of a memory file, and says in words what came of it.
+use engine::register::Machine;
 use engine::run::Answer;
 use engine::run::Verdict;
 use words::argument::asks_for_help;
@@ -11,7 +12,7 @@ use words::file::write_argument;
 use words::file::write_output;
 use words::memory::changed;
 use words::number::Decimal;
-use words::refusal::explained;
+use words::refusal::explained_run;
 use words::refusal::refused;
 use words::register::registers;
 use words::sheet::lines;
@@ -26,10 +27,11 @@ fn help() {
 Runs the sheet file SHEET on a copy of the memory file MEMORY, with vectors of VECTOR-LENGTH bytes (8 to 64,
 a multiple of 8), and writes the memory after it to the file OUT, if one is named.
 
-The first line is `done`, or `refused N at P`: the refusal's number and place. What it means and what stands
-at that place come next. Then the passes and calculations completed; a line for each register that is not
-fresh: its state, kind and width, the elements moved, the flags (a set one by its dimension, a clear one as
--) and the valid lanes in hexadecimal; and how many bytes of the memory changed.
+The first line is `done`, or `refused N at P`: the refusal's number and place. What it means (of 14: which
+lane of which operand lies outside memory, and at what address) and what stands at that place come next.
+Then the passes and calculations completed; a line for each register that is not fresh: its state, kind and
+width, the elements moved, the flags (a set one by its dimension, a clear one as -) and the valid lanes in
+hexadecimal; and how many bytes of the memory changed.
 ",
     );
 }
@@ -43,13 +45,13 @@ fn wrong_use(what: &[u8]) {
 }
 
 // Writes the verdict of a sheet; of a refusal its meaning, and the line of what stands at its place. 15 has no place.
-fn verdict_words(v: Verdict, sheet: &[u8]) {
+fn verdict_words(v: Verdict, sheet: &[u8], m: Machine) {
     match v {
         Verdict::Done => say(b"done\n"),
         Verdict::Refused(why, place) => {
             refused(why, place);
             say(b"\n");
-            explained(why);
+            explained_run(why, place, sheet, m);
             say(b"\n");
             if why.number() != 15 {
                 lines(sheet, place, place);
@@ -79,7 +81,7 @@ fn answer_words(a: Answer, sheet: &[u8], before: &[u8], after: &[u8]) {
     let verdict = a.verdict;
     let report = a.report;
     let machine = a.machine;
-    verdict_words(verdict, sheet);
+    verdict_words(verdict, sheet, machine);
     counted(report.passes, b"pass, ", b"passes, ");
     counted(report.calculations, b"calculation\n", b"calculations\n");
     registers(machine);

@@ -120,9 +120,9 @@ not-kept m h = go (lowOrHigh m) refl
 
 -- a rule that is broken refuses the nest
 broken-first : (m : Nest) (x : Refusal) → Breaks m x → firstOf (checksOf m) ≡ Because x
-broken-first m x (many e h) = rules-first m ∙ rw (lt-ltb 8 (nonzeroOf m) h, is-numbered x 6 e)
-broken-first m x (low-high e h k) = rules-first m ∙ rw (le-ltb 8 (nonzeroOf m) h, not-kept m k, is-numbered x 8 e)
-broken-first m x (large e h k l) = rules-first m ∙ rw (le-ltb 8 (nonzeroOf m) h, low-high-kept m .1 k, lt-ltb 1048576 (product (highsOf m)) l, is-numbered x 9 e)
+broken-first m x (many e h) = rules-first m ∙ rw (lt-ltb 8 (nonzeroOf m) h, is-numbered x 6 e refl)
+broken-first m x (low-high e h k) = rules-first m ∙ rw (le-ltb 8 (nonzeroOf m) h, not-kept m k, is-numbered x 8 e refl)
+broken-first m x (large e h k l) = rules-first m ∙ rw (le-ltb 8 (nonzeroOf m) h, low-high-kept m .1 k, lt-ltb 1048576 (product (highsOf m)) l, is-numbered x 9 e refl)
 
 -- all are kept, or one is the first that is broken
 kept-or-broken : (m : Nest) → AllKept m ⊎ ((x : Refusal) × Breaks m x)

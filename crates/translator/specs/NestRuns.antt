@@ -21,7 +21,7 @@ use Rattle.engine.specs.Calculate.{given, results, allInside, refusalOf, writte
 use Rattle.engine.specs.Calculate
 use Rattle.engine.specs.Registers.{nextChunk, movedBy, toCome}
 use Rattle.engine.specs.Configure.{whyNot, configured}
-use Rattle.engine.specs.Run.{pass, repeat}
+use Rattle.engine.specs.Run.{passBy, repeatBy}
 use Rattle.engine.specs.Sheets.{bodyAt, names, operationsFrom}
 use Rattle.engine.specs.Table.{bytes}
 use Rattle.translator.specs.Nests.{termsAt, countAt, visits, placeUpTo, plainOver, plainLoop}
@@ -43,7 +43,7 @@ unfolding nestIn runNest modifiersAt modifiersFrom dimensionOps bytesOfAll sheet
     sizeAt added span loops elements passes withElements groups leftAfter chunkOf differ height only highs Rules.lowOrHighFrom
     addressUpTo valueAt littleEndian stored lanesFrom joined holding lanewise
     given results allInside refusalOf Calculate.readFrom writtenTo memoryAfter effect
-    nextChunk movedBy toCome whyNot configured pass repeat bodyAt names operationsFrom
+    nextChunk movedBy toCome whyNot configured passBy repeatBy bodyAt names operationsFrom
 runAnswerFor vl s memory = asOutcome (runNest vl s memory)
 
 -- memory after a nest's bytes were translated and run

@@ -60,9 +60,9 @@ pub read-fault : (s : List ℕ) → areBytes s → (x : Refusal) (at : ℕ) (fs 
     → readFrom s fs place m ≡ Reading.Read.refused x at
 unfolding AtFault readFrom
 read-fault s p x at [] place m h = absurd h
-read-fault s p x at (f ∷ fs) place m (Fault.unread e q h) = rw (no-number s place p .1 h, is-numbered x 1 e, q)
+read-fault s p x at (f ∷ fs) place m (Fault.unread e q h) = rw (no-number s place p .1 h, is-numbered x 1 e refl, q)
 read-fault s p x at (f ∷ fs) place m (Fault.beyond v to e q h k) =
-    rw (number-there s place v to h, fails (holds (rangeOf (m .loops) f) v) (holds-plain (rangeOf (m .loops) f) v) k, is-numbered x 2 e, q)
+    rw (number-there s place v to h, fails (holds (rangeOf (m .loops) f) v) (holds-plain (rangeOf (m .loops) f) v) k, is-numbered x 2 e refl, q)
 read-fault s p x at (f ∷ fs) place m (Fault.later v to h k l) =
     rw (number-there s place v to h, holds-plain (rangeOf (m .loops) f) v .1 k)
     (read-fault s p x at fs to (put f v m) l)
@@ -112,7 +112,7 @@ unfolding nestAt
 refused-read s p x at (Refuses.head h) = rw (read-fault s p x at headFields 0 noNest h)
 refused-read s p x at (Refuses.rest m to h l) =
     rw (read-through s headFields 0 to noNest m h, read-fault s p x at (restFields (m .loops)) to m l)
-refused-read s p x at (Refuses.trailing m r d h l e) = nest-read s at m r d h ∙ rw (lt-ltb at (length s) l, is-numbered x 2 e)
+refused-read s p x at (Refuses.trailing m r d h l e) = nest-read s at m r d h ∙ rw (lt-ltb at (length s) l, is-numbered x 2 e refl)
 refused-read s p x at (Refuses.rule m r d e b q) = nest-whole s m r d e ∙ rw (rules-broken m x .1 b, q)
 
 -- what bytes can be: an accepted nest, or a refusal that is due

@@ -14,13 +14,13 @@ use lib.Seq.{sets, sets-eq}
 use lib.Dec.{ltb}
 use borrow.Author.Tests.{lt-ltb, le-ltb}
 use Rattle.engine.specs.Memory.{valueAt}
-use Rattle.engine.specs.Run.{Progress}
+use Rattle.engine.specs.Run.{numberGiven, Progress}
 use Rattle.engine.specs.Sheets.{run}
 use Rattle.translator.specs.Reading.{nestAt}
 use Rattle.translator.specs.Translation.{translated, roomAfter}
 use Rattle.translator.specs.declared.nest.Translated.{Translated}
 use Rattle.translator.specs.declared.nest.Translated.the-variants as answer
-use Rattle.uve.specs.Reports.{bytesOf64, numberGiven, reportOf, refusedNumber, translationNumbers}
+use Rattle.uve.specs.Reports.{bytesOf64, reportOf, refusedNumber, translationNumbers}
 use Rattle.uve.specs.Calls.{unanswered, runAnswer, runMemory, runReport, translateAnswer, translateRoom, translateReport}
 use Rattle.uve.specs.JoinedLaws.{length-joined, joined-read, sets-beyond}
 use Rattle.uve.specs.ReportLaws.{report-length, report-bytes}

@@ -9,10 +9,11 @@ use mathlib.Core.Bool.{cond}
 use lib.ListN.{length}
 use lib.Seq.{sets}
 use lib.Dec.{ltb}
+use Rattle.engine.specs.Run.{numberGiven}
 use Rattle.engine.specs.Sheets.{run}
 use Rattle.translator.specs.Reading.{nestAt}
 use Rattle.translator.specs.Translation.{translated, roomAfter}
-use Rattle.uve.specs.Reports.{bytesOf64, numberGiven, reportOf, refusedNumber, translationNumbers}
+use Rattle.uve.specs.Reports.{bytesOf64, reportOf, refusedNumber, translationNumbers}
 
 -- "the answer is 2^64 - 1": where a report is too short
 abbrev pub unanswered : ℕ

@@ -2,7 +2,7 @@
 --
 --   freshes, registerAt   the numbers of fresh registers; of one register of a report
 --   reportFor             the report of a run
---   runs                  the reports of runs
+--   runs, outsides        the reports of runs; lanes and operands of 14
 --   registers             registers in every state, of both kinds
 --   calls                 bytes of reports; a report that is too short
 --   translations          the reports of translations
@@ -19,11 +19,11 @@ use Rattle.engine.specs.Rules.{only, highs, lowOrHighFrom, product}
 use Rattle.engine.specs.Addresses.{addressUpTo}
 use Rattle.engine.specs.Memory.{valueAt, littleEndian, stored, lanesFrom, joined, holding}
 use Rattle.engine.specs.Lanes.{lanewise}
-use Rattle.engine.specs.Calculate.{given, results, allInside, refusalOf, readFrom, writtenTo, memoryAfter, effect}
+use Rattle.engine.specs.Calculate.{given, results, allInside, laneOutside, refusalOf, readFrom, writtenTo, memoryAfter, effect}
 use Rattle.engine.specs.Checks.{firstOf}
 use Rattle.engine.specs.Registers.{nextChunk, movedBy, toCome}
 use Rattle.engine.specs.Configure.{whyNot, configured}
-use Rattle.engine.specs.Run.{pass, repeat}
+use Rattle.engine.specs.Run.{passBy, repeatBy}
 use Rattle.engine.specs.Sheets.{bodyAt, names, operationsFrom, run}
 use Rattle.engine.specs.Table.{copies, grown, triangle, coupled, words, nest, three, bytes}
 use Rattle.translator.specs.Examples.{oneBytes, sheetFor}
@@ -45,8 +45,8 @@ unfolding headNumbers flagsFrom registerNumbers registersFrom reportOf
     groupsAt numberAt signedOf headerSaid headerOf openAt dimensionAt modifierAt endAt runAt operationAt calculationAt
     sizeAt added span loops elements passes withElements groups leftAfter chunkOf differ height only highs lowOrHighFrom product
     addressUpTo valueAt littleEndian stored lanesFrom joined holding lanewise
-    given results allInside refusalOf readFrom writtenTo memoryAfter effect
-    firstOf nextChunk movedBy toCome whyNot configured pass repeat bodyAt names operationsFrom
+    given results allInside laneOutside refusalOf readFrom writtenTo memoryAfter effect
+    firstOf nextChunk movedBy toCome whyNot configured passBy repeatBy bodyAt names operationsFrom
 reportFor vl sheet memory = reportOf (run vl sheet memory)
 
 -- "an empty sheet too"; 15; "Words, base 4, size 5, stride 2, length 16": done with 40 bytes of memory, refused with 14 with 39
@@ -65,6 +65,18 @@ pub runs :
     ++ ((0 ∷ 0 ∷ 4 ∷ 4 ∷ 0 ∷ 0 ∷ 0x0f0e0d0c07060504 ∷ 0x1f1e1d1c17161514 ∷ replicate 6 0) ++ (freshes 29 ++ replicate 8 0)))))
 unfolding reportFor freshes copies words bytes
 runs = (refl, refl, refl, refl)
+
+-- 01's sheet of 42 bytes, three lanes each from bytes 0, 8 and 16 on, in memories that end before, after one and after two elements of an
+-- operand: number, place, passes, calculations, the first lane outside, the operand
+pub outsides :
+    (map (λ n. take 6 (reportFor 8 nest (bytes 1 n))) (0 ∷ 1 ∷ 2 ∷ [])
+    ≡ (14 ∷ 38 ∷ 0 ∷ 0 ∷ 0 ∷ 0 ∷ []) ∷ (14 ∷ 38 ∷ 0 ∷ 0 ∷ 1 ∷ 0 ∷ []) ∷ (14 ∷ 38 ∷ 0 ∷ 0 ∷ 2 ∷ 0 ∷ []) ∷ [])
+    × (map (λ n. take 6 (reportFor 8 nest (bytes 1 n))) (8 ∷ 9 ∷ 10 ∷ [])
+    ≡ (14 ∷ 38 ∷ 0 ∷ 0 ∷ 0 ∷ 1 ∷ []) ∷ (14 ∷ 38 ∷ 0 ∷ 0 ∷ 1 ∷ 1 ∷ []) ∷ (14 ∷ 38 ∷ 0 ∷ 0 ∷ 2 ∷ 1 ∷ []) ∷ [])
+    × (map (λ n. take 6 (reportFor 8 nest (bytes 1 n))) (16 ∷ 17 ∷ 18 ∷ 19 ∷ [])
+    ≡ (14 ∷ 38 ∷ 0 ∷ 0 ∷ 0 ∷ 2 ∷ []) ∷ (14 ∷ 38 ∷ 0 ∷ 0 ∷ 1 ∷ 2 ∷ []) ∷ (14 ∷ 38 ∷ 0 ∷ 0 ∷ 2 ∷ 2 ∷ []) ∷ (0 ∷ 0 ∷ 1 ∷ 1 ∷ 0 ∷ 0 ∷ []) ∷ [])
+unfolding reportFor nest bytes
+outsides = (refl, refl, refl)
 
 -- an open stream of two dimensions, one being configured, one that has no elements; 01's sheet of 42 bytes, which finishes two loads
 -- and a store; the triangle coupled to 1, refused after its third row: flag 1 alone

@@ -4,18 +4,20 @@
 --   lanes-in-order          a register's lane bytes stand in the report as they are
 --   fresh-numbers           the numbers of a fresh register
 --   refused-15              "With 15 all registers are fresh"
+--   forgotten, report-before   but for lane and operand a report is what it was
 --   toldDigit, flags-asked  each flag is what the engine's question for it is told
 use Prim.Native.Nat.{ℕ, zero, suc, _+_, _-_, _*_, _/_, _%_, _^_, _≤_, _<_}
-use mathlib.Core.Path.{_≡_, refl, _∙_}
+use mathlib.Core.Path.{_≡_, refl, _∙_, ap}
 use mathlib.Core.List.{List, [], _∷_, _++_}
 use mathlib.Core.Bool.{Bool, true, false, cond, not, _&&_, _||_}
 use native.Mathlib.Omega.{arith}
 use native.Mathlib.Nat.{pow-succ', zero-div, div-div-eq-div-mul}
 use native.Mathlib.Decide.{decLe}
-use lib.ListN.{length, replicate, length-append}
+use lib.ListN.{length, replicate, take, drop, length-append}
 use lib.Seq.{take-all}
 use lib.Dec.{leb, ltb}
 use borrow.Author.Tests.{le-leb, lt-leb, le-ltb, lt-ltb, ne-eqb}
+use Rattle.codec.specs.declared.operation.Calculation.{Calculation}
 use Rattle.codec.specs.declared.refusal.Refusal.the-variants.{OutOfRange, WrongState}
 use Rattle.engine.specs.Memory.{valueAt, lanesFrom}
 use Rattle.engine.specs.ByteLaws.{Bytewise}
@@ -23,8 +25,10 @@ use Rattle.engine.specs.Chunks.{flag}
 use Rattle.engine.specs.Checks.{_if_, firstOf}
 use Rattle.engine.specs.Questions.{yesOrNo, unless, askFlag}
 use Rattle.engine.specs.Registers.{isOpen, isFinished, fresh, freshMachine, shapeOf, reg}
-use Rattle.engine.specs.Run.{Progress}
-use Rattle.engine.specs.Sheets.{allowed, run}
+use Rattle.engine.specs.Calculate.{World}
+use Rattle.engine.specs.Run.{Progress, Reason}
+use Rattle.engine.specs.Sheets.{allowed, runBy, run}
+use Rattle.engine.specs.Before.{numberBefore, numberOfWhy, Plainly, plainly, as-before}
 use Rattle.engine.specs.declared.check.Told.{Told}
 use Rattle.engine.specs.declared.check.Told.the-variants.{Yes, No, Untold}
 use Rattle.engine.specs.declared.register.State.{State}
@@ -73,6 +77,27 @@ pub refused-15 : (vl : ℕ) (s memory : List ℕ) → allowed vl (length memory)
     → reportOf (run vl s memory) ≡ (15 ∷ replicate 7 0) ++ (registersFrom freshMachine 0 32 ++ maskNumbers)
 unfolding reportOf headNumbers
 refused-15 vl s memory e = rw e
+
+-- ---- lane and operand
+
+-- a report with lane and operand 0
+abbrev pub forgotten : List ℕ → List ℕ
+forgotten report = take 4 report ++ (0 ∷ 0 ∷ drop 6 report)
+
+-- answers that are alike but for the two numbers of 14 have reports that are
+report-plainly : (p q : Progress) → plainly p ≡ plainly q → forgotten (reportOf p) ≡ forgotten (reportOf q)
+unfolding reportOf headNumbers
+report-plainly p q e =
+    ap
+    (λ (g : Plainly).
+    g .number ∷ g .place ∷ g .report .passes ∷ g .report .calculations ∷ 0 ∷ 0 ∷ 0 ∷ 0 ∷ (registersFrom (g .world .machine) 0 32 ++ maskNumbers))
+    e
+
+-- whatever says why a calculation is refused, with 01's number of it: every sheet has the report that the engine gives it, lane and operand
+-- forgotten
+pub report-before : (why : Reason) → ((vl : ℕ) (c : Calculation) (w : World) → numberOfWhy (why vl c w) ≡ numberBefore vl c w)
+    → (vl : ℕ) (s memory : List ℕ) → forgotten (reportOf (runBy why freshMachine vl s memory)) ≡ forgotten (reportOf (run vl s memory))
+report-before why e vl s memory = report-plainly _ _ (as-before why e freshMachine vl s memory)
 
 -- ---- flags
 

@@ -1,7 +1,7 @@
 -- The numbers of a report. In quotation marks: the request for a library, which include/uve.h tells its callers.
 --
 --   bytesOf64                        numbers as bytes
---   numberGiven, placeGiven          a verdict's number and place
+--   laneGiven, operandGiven          the two numbers more of a refusal 14
 --   headNumbers                      the first eight numbers of a run's report
 --   stateNumber, kindNumber          what a register's numbers mean
 --   unlessPlain, ofStream            what does not apply is 0
@@ -15,13 +15,13 @@ use mathlib.Core.List.{List, [], _∷_, _++_}
 use mathlib.Core.Bool.{cond, _&&_}
 use lib.ListN.{replicate}
 use lib.Dec.{leb}
-use Rattle.codec.specs.Refusals.{numberOf}
+use Rattle.codec.specs.Refusals.{numberOf, laneOf, operandOf}
 use Rattle.codec.specs.declared.header.Kind.{Kind}
 use Rattle.codec.specs.declared.header.Kind.the-variants.{Load, Store}
 use Rattle.engine.specs.Chunks.{flag}
 use Rattle.engine.specs.Memory.{lanesFrom, joined}
 use Rattle.engine.specs.Registers.{reg}
-use Rattle.engine.specs.Run.{Progress}
+use Rattle.engine.specs.Run.{numberGiven, placeGiven, Progress}
 use Rattle.engine.specs.declared.register.State.{State}
 use Rattle.engine.specs.declared.register.State.the-variants.{Plain, Configuring, Open, Finished}
 use Rattle.engine.specs.declared.register.Register.{Register}
@@ -38,20 +38,20 @@ bytesOf64 = joined 8
 
 -- ---- the first eight
 
--- "the refusal's number, or 0": a run's answer
-abbrev pub numberGiven : Verdict → ℕ
-numberGiven Done = 0
-numberGiven (Refused x place) = numberOf x
+-- the lane of a refusal 14, or 0
+abbrev pub laneGiven : Verdict → ℕ
+laneGiven Done = 0
+laneGiven (Refused x place) = laneOf x
 
--- "done: number 0, place 0"
-abbrev pub placeGiven : Verdict → ℕ
-placeGiven Done = 0
-placeGiven (Refused x place) = place
+-- the operand of a refusal 14, or 0
+abbrev pub operandGiven : Verdict → ℕ
+operandGiven Done = 0
+operandGiven (Refused x place) = operandOf x
 
--- "number, place, passes, calculations", "and four that stay 0 until a request gives them: lane and operand of a refusal 14, headers
--- with a cache level, iterations walked"
+-- "number, place, passes, calculations", "done: number 0, place 0", "lane and operand of a refusal 14" (02, 1/14); "headers with a cache level,
+-- iterations walked" stay 0 until a request gives them
 unfoldable pub headNumbers : Verdict → Report → List ℕ
-headNumbers v r = numberGiven v ∷ placeGiven v ∷ r .passes ∷ r .calculations ∷ 0 ∷ 0 ∷ 0 ∷ 0 ∷ []
+headNumbers v r = numberGiven v ∷ placeGiven v ∷ r .passes ∷ r .calculations ∷ laneGiven v ∷ operandGiven v ∷ 0 ∷ 0 ∷ []
 
 -- ---- a register
 

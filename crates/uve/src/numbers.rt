@@ -8,7 +8,8 @@ use translator::nest::Translated;
 ghost use mathlib.Core.Path.{_≡_};
 ghost use Prim.Native.Nat.{_+_, _*_, _≤_, _<_};
 ghost use Rattle.engine.specs.Memory.{valueAt};
-ghost use Rattle.uve.specs.Reports.{numberGiven, placeGiven, headNumbers, stateNumber, kindNumber, unlessPlain, ofStream, flagDigit, flagsOf, registerNumbers, translationNumbers, refusedNumber};
+ghost use Rattle.engine.specs.Run.{numberGiven, placeGiven};
+ghost use Rattle.uve.specs.Reports.{laneGiven, operandGiven, headNumbers, stateNumber, kindNumber, unlessPlain, ofStream, flagDigit, flagsOf, registerNumbers, translationNumbers, refusedNumber};
 
 // The refusal's number, or 0.
 pub(crate) fn number_given(v: Verdict) -> u64
@@ -30,6 +31,26 @@ fn place_given(v: Verdict) -> u64
     }
 }
 
+// The lane of a refusal 14, or 0.
+fn lane_given(v: Verdict) -> u64
+    ensures { λ r. ⌜ r ≡ laneGiven v ⌝ }
+{
+    match v {
+        Verdict::Done => 0,
+        Verdict::Refused(refusal, place) => refusal.lane(),
+    }
+}
+
+// The operand of a refusal 14, or 0.
+fn operand_given(v: Verdict) -> u64
+    ensures { λ r. ⌜ r ≡ operandGiven v ⌝ }
+{
+    match v {
+        Verdict::Done => 0,
+        Verdict::Refused(refusal, place) => refusal.operand(),
+    }
+}
+
 // The first eight numbers of a run's report.
 pub(crate) fn head_numbers(v: Verdict, r: Report) -> [u64; 8]
     ensures { λ q. ⌜ q ≡ headNumbers v r ⌝ }
@@ -39,8 +60,8 @@ pub(crate) fn head_numbers(v: Verdict, r: Report) -> [u64; 8]
         place_given(v),
         r.passes,
         r.calculations,
-        0,
-        0,
+        lane_given(v),
+        operand_given(v),
         0,
         0,
     ]

@@ -1,4 +1,6 @@
 pub mod Changes
 pub mod Decimals
 pub mod Files
+pub mod Outside
+pub mod OutsideLaws
 pub mod Registers

@@ -4,6 +4,7 @@ pub mod file;
 pub mod memory;
 pub mod number;
 pub mod operation;
+mod outside;
 pub mod refusal;
 pub mod register;
 pub mod sheet;

@@ -1,7 +1,9 @@
 // Refusals in words: document 01's table.
+use crate::outside::lane_outside;
 use crate::text::decimal;
 use crate::text::say;
 use codec::refusal::Refusal;
+use engine::register::Machine;
 
 // Writes a refusal's number and place, as the first line of a run has them.
 pub fn refused(r: Refusal, place: usize) {
@@ -31,7 +33,7 @@ fn meaning(r: Refusal) {
         Refusal::StreamEnded => say(b"a finished register in a calculation"),
         Refusal::Widths => say(b"the widths of the registers differ"),
         Refusal::LaneCounts => say(b"the lanes of the sources differ, or exceed the store's chunk"),
-        Refusal::Outside => say(b"an element lies outside memory"),
+        Refusal::Outside(lane, role) => say(b"an element lies outside memory"),
         Refusal::Lengths => say(b"the vector length or the memory's length is not allowed"),
         Refusal::LoopRegister => say(
             b"the loop register is no open or finished load stream, or no calculation has it as a source",
@@ -40,8 +42,9 @@ fn meaning(r: Refusal) {
     }
 }
 
-// Writes what to look at to mend it.
+// Writes the line of what to look at to mend it, without its end.
 fn hint(r: Refusal) {
+    say(b"\nhint: ");
     match r {
         Refusal::BadNumber => say(
             b"seven bits to a byte, lowest first, 80h added to all but the last; below 2^32, no 00 at the end",
@@ -74,7 +77,7 @@ fn hint(r: Refusal) {
         Refusal::LaneCounts => say(
             b"give the streams of a calculation the same sizes, modifiers and coupling; a fresh register has no lanes",
         ),
-        Refusal::Outside => say(
+        Refusal::Outside(lane, role) => say(
             b"its address is below 0, or its last byte lies behind the memory's end",
         ),
         Refusal::Lengths => say(
@@ -88,6 +91,15 @@ fn hint(r: Refusal) {
 // Writes two lines on a refusal, the second without its end: what it means, and a hint.
 pub fn explained(r: Refusal) {
     meaning(r);
-    say(b"\nhint: ");
+    hint(r);
+}
+
+// The same where a sheet was run, by the refusal's place and the registers left: 14 names the lane that fell outside, and its address.
+pub fn explained_run(r: Refusal, place: usize, sheet: &[u8], m: Machine) {
+    if let Refusal::Outside(lane, role) = r {
+        lane_outside(sheet, m, place, lane, role);
+    } else {
+        meaning(r);
+    }
     hint(r);
 }

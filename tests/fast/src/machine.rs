@@ -32,6 +32,8 @@ pub struct Machine {
     pub registers: [Register; 32],
     pub passes: u64,
     pub calculations: u64,
+    /// Lane and operand of a refusal 14.
+    outside: [u64; 2],
     first: Ahead,
     second: Ahead,
     destination: Ahead,
@@ -53,6 +55,7 @@ impl Machine {
             registers: [FRESH; 32],
             passes: 0,
             calculations: 0,
+            outside: [0; 2],
             first: Ahead::none(),
             second: Ahead::none(),
             destination: Ahead::none(),
@@ -97,11 +100,12 @@ impl Machine {
         }
         let (width, length) = (1 << code, memory.len() as i64);
         let reads = |register: usize| self.registers[register].state == OPEN;
-        let outside = reads(a) && !self.first.inside(width, length)
-            || a != b && reads(b) && !self.second.inside(width, length)
-            || stores && n > 0 && !self.destination.inside(width, length);
-        if outside {
-            return Err(14);
+        let looked = [(reads(a), &self.first), (a != b && reads(b), &self.second), (stores && n > 0, &self.destination)];
+        for (operand, (moves, ahead)) in looked.into_iter().enumerate() {
+            if moves && !ahead.inside(width, length) {
+                self.outside = [ahead.first_outside(width, length), operand as u64];
+                return Err(14);
+            }
         }
         read(&mut self.registers[a], &self.first, memory);
         if a != b {
@@ -123,6 +127,7 @@ impl Machine {
     pub fn report(&self, number: u64, place: u64, report: &mut [u8]) {
         let mut numbers = [0; NUMBERS];
         numbers[..4].copy_from_slice(&[number, place, self.passes, self.calculations]);
+        numbers[4..6].copy_from_slice(&self.outside);
         for (to, register) in numbers[8..].chunks_exact_mut(14).zip(&self.registers) {
             let stream = &register.stream;
             let flags = match register.state {

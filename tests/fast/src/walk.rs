@@ -69,9 +69,21 @@ impl Ahead {
 
     /// Whether all elements lie inside a memory.
     pub fn inside(&self, width: i64, memory: i64) -> bool {
-        let fits = |address: i64| address >= 0 && address + width <= memory;
+        let fits = |address: i64| fits(address, width, memory);
         self.stretches().iter().all(|stretch| fits(stretch.start) && fits(stretch.start + (stretch.count as i64 - 1) * stretch.step))
     }
+
+    /// How many elements lie inside a memory before the first that does not.
+    #[cold]
+    pub fn first_outside(&self, width: i64, memory: i64) -> u64 {
+        let addresses = self.stretches().iter().flat_map(|stretch| (0..stretch.count as i64).map(|k| stretch.start + k * stretch.step));
+        addresses.take_while(|&address| fits(address, width, memory)).count() as u64
+    }
+}
+
+/// Whether an element lies inside a memory.
+fn fits(address: i64, width: i64, memory: i64) -> bool {
+    address >= 0 && address + width <= memory
 }
 
 impl Stream {

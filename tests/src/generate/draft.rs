@@ -111,13 +111,17 @@ impl Draft {
         self.body.truncate(16);
     }
 
-    /// A line stores the lanes of a register that has none.
-    fn store_nothing(&mut self, random: &mut Random) {
-        let fresh = (0..32).find(|register| {
+    /// A register that no plan has and no line names.
+    fn unnamed(&self) -> Option<u64> {
+        (0..32).find(|register| {
             let named = self.body.iter().any(|line| line[1..].contains(register));
             !named && self.plans.iter().all(|plan| plan.register != *register)
-        });
-        if let (Some(fresh), Some(&store)) = (fresh, self.cast.stores.first()) {
+        })
+    }
+
+    /// A line stores the lanes of a register that has none.
+    fn store_nothing(&mut self, random: &mut Random) {
+        if let (Some(fresh), Some(&store)) = (self.unnamed(), self.cast.stores.first()) {
             let place = random.place(self.body.len() + 1);
             self.body.insert(place, [0, store, fresh, fresh]);
         }
@@ -154,7 +158,7 @@ impl Draft {
 
     fn disturb_once(&mut self, random: &mut Random) {
         let at = random.place(self.plans.len());
-        match random.below(30) {
+        match random.below(34) {
             0..=3 => self.memory -= random.range(1, self.memory.clamp(1, 24)),
             4 => self.memory = random.range(0, self.memory.max(0)),
             5 => self.plans[at].base = (self.plans[at].base + random.range(-20, 20)).max(0),
@@ -181,7 +185,33 @@ impl Draft {
             25 => self.open_anew(random, at),
             26 => self.plans[at].register = random.below(32),
             27 | 28 => self.crooked(random),
+            29..=32 => self.slip(random),
             _ => self.body = wild(random, &self.cast),
+        }
+    }
+
+    /// An operand of a line slips out of memory; now and then a second one of the same line, of which the one looked at first counts.
+    fn slip(&mut self, random: &mut Random) {
+        let at = random.place(self.body.len());
+        if random.one_in(2) {
+            self.part_sources(random, at);
+        }
+        let memory = self.memory.clamp(0, 65_536);
+        for _ in 0..random.pick(&[1, 1, 2]) {
+            let register = self.body[at][random.range(1, 3) as usize];
+            if let Some(plan) = self.plans.iter_mut().find(|plan| plan.register == register) {
+                plan.slip(random, memory);
+            }
+        }
+    }
+
+    /// A line gets a second source that steps together with its first, a load stream.
+    fn part_sources(&mut self, random: &mut Random, at: usize) {
+        let [_, destination, first, _] = self.body[at];
+        let load = self.plans.iter().find(|plan| plan.register == first && plan.kind == Kind::Load);
+        if let (Some(plan), Some(second)) = (load, self.unnamed()) {
+            self.plans.push(Plan { register: second, ..plan.clone() });
+            self.body[at] = [random.range(1, 7) as u64, destination, first, second];
         }
     }
 

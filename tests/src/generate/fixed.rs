@@ -29,6 +29,37 @@ fn words() -> Vec<u64> {
     vec![1, 0x5608b, 4, 2, 1, 0, 5, unsigned(2), 4, 1, 5, 1, 1, 0, 2, 1, 1]
 }
 
+/// Register 3 takes the sums of registers 1 and 2, each a stream of 70 elements with a base and a stride of its own.
+fn added(code: u64, streams: [(u64, i64); 3]) -> Vec<u64> {
+    let mut numbers = Vec::new();
+    for (register, (base, stride)) in (1..).zip(streams) {
+        let load = if register < 3 { 4 } else { 0 };
+        numbers.extend([1, 0x0b + (register << 7) + ((load + code) << 12), base, 2, register, 0, 70, unsigned(stride), 4, register]);
+    }
+    numbers.extend([5, 1, 1, 1, 3, 1, 2]);
+    numbers
+}
+
+/// Sums of which a stream runs out of memory, one of the three or more: at every lane, above and below. The others stay at byte 0.
+fn outside(vl: u64) -> Vec<SheetInput> {
+    let code = vl / 8 % 4;
+    let still = (0, 0);
+    let mut inputs = Vec::new();
+    for memory in 0..=80 {
+        let (one, further) = ((9, 1), (20, 1));
+        for streams in [[one, still, still], [still, one, still], [still, still, one], [one, further, further], [still, one, further]] {
+            inputs.push(input(added(code, streams), vl, memory));
+        }
+    }
+    for base in 0..=63 {
+        let down = (base, -1);
+        for streams in [[down, still, still], [still, down, still], [still, still, down]] {
+            inputs.push(input(added(code, streams), vl, 80));
+        }
+    }
+    inputs
+}
+
 /// 1,048,576 passes: elements of 8 bytes, one a chunk, all at one place.
 fn longest() -> Vec<u64> {
     vec![1, 0x708b, 0, 2, 1, 0, 4_096, 0, 2, 1, 0, 256, 0, 4, 1, 5, 1, 1, 0, 2, 1, 1]
@@ -45,6 +76,7 @@ pub fn sheets() -> Vec<SheetInput> {
         for memory in 3..=42 {
             inputs.push(input(words(), vl, memory));
         }
+        inputs.extend(outside(vl));
     }
     for rows in 0..=8 {
         inputs.push(input(shrinking(rows), 8, 12));

@@ -63,16 +63,39 @@ impl Plan {
         stream
     }
 
-    /// The first byte and the first byte behind, over the first elements; none if there is no element, or the stream will be refused.
-    pub fn span(&self) -> Option<(i64, i64)> {
+    /// The addresses of the first elements; none if the stream will be refused.
+    fn addresses(&self) -> Vec<i64> {
         let mut stream = self.stream();
         if stream.dimensions.len() > 7 || stream.bounds().is_err() {
-            return None;
+            return Vec::new();
         }
         stream.list(1_000);
-        let least = stream.elements.iter().map(|element| element.address).min()?;
-        let most = stream.elements.iter().map(|element| element.address).max()?;
-        Some((least, most + self.width()))
+        stream.elements.iter().map(|element| element.address).collect()
+    }
+
+    /// The first byte and the first byte behind, over the first elements; none if there is no element, or the stream will be refused.
+    pub fn span(&self) -> Option<(i64, i64)> {
+        let addresses = self.addresses();
+        Some((*addresses.iter().min()?, addresses.iter().max()? + self.width()))
+    }
+
+    /// Moves the stream so that one of its elements lies just outside a memory, below or above it. Where its strides lead there, the
+    /// elements before lie inside.
+    pub fn slip(&mut self, random: &mut Random, memory: i64) {
+        let below = random.one_in(2);
+        if random.one_in(2) {
+            for dimension in &mut self.dimensions {
+                dimension.stride = if below { -dimension.stride.abs() } else { dimension.stride.abs() };
+            }
+        }
+        let addresses = self.addresses();
+        if addresses.is_empty() {
+            return;
+        }
+        let outside = if below { -random.range(1, self.width()) } else { memory - self.width() + random.range(1, self.width()) };
+        let base = self.base + outside - random.pick(&addresses);
+        self.base = base.clamp(0, 1_048_576);
+        self.dimensions[0].offset += base.min(0);
     }
 
     /// Gives the plan a base from which its elements lie at `from` and above.

@@ -1,25 +1,26 @@
 -- `calculate::check_calculation` meets its contract: each check in turn, on the registers that the running ones stand for.
 use Prim.Native.Nat.{_/_, _≤_}
 use mathlib.Core.Path.{_≡_, refl, sym, _∙_, ap, subst}
-use mathlib.Core.List.{[]}
+use mathlib.Core.List.{[], _∷_}
 use mathlib.Core.Bool.{Bool, true, false, cond}
 use native.Mathlib.Omega.{arith}
 use lib.ListN.{length, replicate}
 use borrow.Author.Tests.{eqb-true, not-false}
 use Rattle.codec.specs.TestLaws.{or-false}
-use Rattle.engine.specs.Checks.{firstOf}
+use Rattle.engine.specs.Checks.{Check, firstOf}
 use Rattle.engine.specs.Rows.{patternAt}
 use Rattle.engine.specs.Stretches.{Parts}
 use Rattle.engine.specs.Runnings.{viewOf, bare, listedIn}
-use Rattle.engine.specs.Operands.{Taken, operandOf}
+use Rattle.engine.specs.Operands.{Taken, operandOf, blamed}
 use Rattle.engine.specs.LaneLaws.{width-range}
+use Rattle.codec.specs.declared.refusal.Role.the-variants as role
 use Rattle.codec.specs.declared.refusal.Refusal.{Refusal}
 use Rattle.engine.specs.Calculations.{Cleared}
 use Rattle.engine.specs.declared.check.Why.{Why}
 use Rattle.engine.specs.declared.check.Why.the-variants.{Nothing, Because}
 use Rattle.engine.specs.declared.calculate.Checked.{Checked}
 use Rattle.engine.proofs.Ordered.{states, after, widths, states-stop, widths-stop, source-few, counts-stop, first-outside, second-outside, third-outside}
-use Rattle.engine.proofs.Clearing.{lanesDiffer, beyond, ready, turned-down, second-beyond, stopped, cleared}
+use Rattle.engine.proofs.Clearing.{lanesDiffer, ready, turned-down, second-blamed, stopped, cleared}
 use borrow.Author.Needs.{needs}
 use Rattle.engine.proofs.calculate.check_calculation.Statement.{statement}
 use Rattle.engine.proofs.calculate.check_calculation.Tie as tie
@@ -60,18 +61,6 @@ first-few c =
     let p = patternAt (a .args .shapes .now) (a .args .places .now) (a .args .i) in
     source-few (a .args .vl) [] (viewOf p (replicate 64 0) (a .args .va .now) (a .args .a)) (operandOf p (replicate 64 0) (x .last .1 .1 .1 .1 .0) (x .last .1 .1 .1 .1 .1 .0) (a .args .a) (x .result)) (a .pre .0 .0 .1) (a .pre .1 .1 .0 .0 .good (replicate 64 0) refl) (first-taken c .operates (replicate 64 0))
 
--- the second source lies outside, or not, where the first does not
-second-lies : (c : tie.After-second-outside) → let a = c .before .before .before .before .before .before .before .before .before .before .before .before .before .before .before .before .before .before .before .before .before .before .before .before .before .before .before .before .before .before in let x = c .before .before .before .before .before .before .before .before .before .before .before .before .before .before .before .before .before .before .before .as-source in let y = c .before .before .before .before .before .before .before .before .before .before .before .before .second-source in
-    beyond (a .args .len) (y .result) (a .args .b .width) (cond (a .args .same) (x .last .1 .1 .1 .1 .1 .0) (y .last .1 .1 .1 .1 .1 .1 .1 .1 .1 .0)) ≡ c .second-outside .result
-second-lies c =
-    let a = c .before .before .before .before .before .before .before .before .before .before .before .before .before .before .before .before .before .before .before .before .before .before .before .before .before .before .before .before .before .before in
-    let x = c .before .before .before .before .before .before .before .before .before .before .before .before .before .before .before .before .before .before .before .as-source in
-    let y = c .before .before .before .before .before .before .before .before .before .before .before .before .second-source in
-    second-beyond (a .args .len) (a .args .b .width) (a .args .same) (y .result) (x .last .1 .1 .1 .1 .1 .0) (y .last .1 .1 .1 .1 .1 .1 .1 .1 .1 .0) (c .second-outside .result) (c .second-outside .ensures)
-    (λ t.
-    (λ k. beyond (a .args .len) (y .ensures .1 .1 t k) (a .pre .1 .1 .1 t .0 k .width) (x .last .1 .1 .1 .1 .1 .0))
-    ∙ sym (c .before .before .before .outside .ensures) ∙ c .before .before .if3 .left)
-
 -- what the checks found once the three operands were looked at
 abbrev Told : tie.After-as-destination → Checked → Type 0
 Told c =
@@ -86,14 +75,14 @@ Told c =
 abbrev differ : tie.After-as-destination → Bool
 differ c = lanesDiffer (c .before .before .before .before .before .before .before .before .before .before .before .before .as-source .result) (c .before .before .before .before .before .second-source .result) (c .as-destination .result)
 
-abbrev first-beyond : tie.After-as-destination → Bool
-first-beyond c = let a = c .before .before .before .before .before .before .before .before .before .before .before .before .before .before .before .before .before .before .before .before .before .before .before .args in let x = c .before .before .before .before .before .before .before .before .before .before .before .before .as-source in beyond (a .len) (x .result) (a .a .width) (x .last .1 .1 .1 .1 .1 .0)
+abbrev first-beyond : tie.After-as-destination → Check
+first-beyond c = let a = c .before .before .before .before .before .before .before .before .before .before .before .before .before .before .before .before .before .before .before .before .before .before .before .args in let x = c .before .before .before .before .before .before .before .before .before .before .before .before .as-source in blamed role.First (a .len) (a .a .width) (x .result) (x .last .1 .1 .1 .1 .1 .0)
 
-abbrev other-beyond : tie.After-as-destination → Bool
-other-beyond c = let a = c .before .before .before .before .before .before .before .before .before .before .before .before .before .before .before .before .before .before .before .before .before .before .before .args in let x = c .before .before .before .before .before .before .before .before .before .before .before .before .as-source in let y = c .before .before .before .before .before .second-source in beyond (a .len) (y .result) (a .b .width) (cond (a .same) (x .last .1 .1 .1 .1 .1 .0) (y .last .1 .1 .1 .1 .1 .1 .1 .1 .1 .0))
+abbrev other-beyond : tie.After-as-destination → Check
+other-beyond c = let a = c .before .before .before .before .before .before .before .before .before .before .before .before .before .before .before .before .before .before .before .before .before .before .before .args in let x = c .before .before .before .before .before .before .before .before .before .before .before .before .as-source in let y = c .before .before .before .before .before .second-source in blamed role.Second (a .len) (a .b .width) (y .result) (cond (a .same) (x .last .1 .1 .1 .1 .1 .0) (y .last .1 .1 .1 .1 .1 .1 .1 .1 .1 .0))
 
-abbrev target-beyond : tie.After-as-destination → Bool
-target-beyond c = let a = c .before .before .before .before .before .before .before .before .before .before .before .before .before .before .before .before .before .before .before .before .before .before .before .args in let z = c .as-destination in beyond (a .len) (z .result) (a .d .width) (z .last .1 .1 .1 .1 .1 .0)
+abbrev target-beyond : tie.After-as-destination → Check
+target-beyond c = let a = c .before .before .before .before .before .before .before .before .before .before .before .before .before .before .before .before .before .before .before .before .before .before .before .args in let z = c .as-destination in blamed role.Destination (a .len) (a .d .width) (z .result) (z .last .1 .1 .1 .1 .1 .0)
 
 -- an operand refuses
 halted : (c : tie.After-as-destination) (r : Checked) (v : Refusal) → r .why ≡ Because v
@@ -104,7 +93,7 @@ halted c =
     (first-taken (c .before .before .before .before .before .before .before .before .before .before .before .before)) (second-taken (c .before .before .before .before .before)) (c .as-destination .ensures) (no-states (c .before .before .before .before .before .before .before .before .before .before .before .before .before .before .before .before .before .before .before .before)) (no-widths (c .before .before .before .before .before .before .before .before .before .before .before .before .before .before .before .before .before .before))
 
 -- no check refuses
-passed : (c : tie.After-as-destination) → differ c ≡ false → first-beyond c ≡ false → other-beyond c ≡ false → target-beyond c ≡ false
+passed : (c : tie.After-as-destination) → differ c ≡ false → firstOf (first-beyond c ∷ []) ≡ Nothing → firstOf (other-beyond c ∷ []) ≡ Nothing → firstOf (target-beyond c ∷ []) ≡ Nothing
     → (r : Checked) → r ≡ record { why = Nothing; first = c .before .before .before .before .before .before .before .before .before .before .before .before .as-source .result; second = c .before .before .before .before .before .second-source .result; destination = c .as-destination .result } → Told c r
 passed c l p q s =
     let a = c .before .before .before .before .before .before .before .before .before .before .before .before .before .before .before .before .before .before .before .before .before .before .before in
@@ -118,6 +107,24 @@ passed c l p q s =
 long : (c : tie.After-as-destination) → let x = c .before .before .before .before .before .before .before .before .before .before .before .before in let y = c .before .before .before .before .before .second-source in
     (length (x .as-source .last .1 .1 .1 .1 .1 .0) ≡ 64) × ((length (y .last .1 .1 .1 .1 .1 .1 .1 .1 .1 .0) ≡ 64) × (length (c .as-destination .last .1 .1 .1 .1 .1 .0) ≡ 64))
 long c = (first-taken (c .before .before .before .before .before .before .before .before .before .before .before .before) .long, (c .before .before .before .before .before .second-source .ensures .1 .0, c .as-destination .ensures .long))
+
+-- the lanes agree
+agree : (c : tie.Else2) → differ (c .before .before) ≡ false
+agree c = sym (c .before .lanes-differ .ensures) ∙ c .if2 .left
+
+-- the first source lies inside
+first-inside : (c : tie.After-enum-told3) → firstOf (first-beyond (c .before .before .before .before .before .before) ∷ []) ≡ Nothing
+first-inside c = sym (c .before .before .outside .ensures) ∙ c .enum-told3 .given .1
+
+-- the second lies outside, or not, where the first does not
+second-lies : (c : tie.After-second-outside) → firstOf (other-beyond (c .before .before .before .before .before .before .before .before) ∷ []) ≡ c .second-outside .result
+second-lies c =
+    let o = c .before .before .before .before .before .before .before .before in
+    let a = o .before .before .before .before .before .before .before .before .before .before .before .before .before .before .before .before .before .before .before .before .before .before .before in
+    let x = o .before .before .before .before .before .before .before .before .before .before .before .before .as-source in
+    let y = o .before .before .before .before .before .second-source in
+    second-blamed (a .args .len) (a .args .b .width) (a .args .same) (y .result) (x .last .1 .1 .1 .1 .1 .0) (y .last .1 .1 .1 .1 .1 .1 .1 .1 .1 .0) (c .second-outside .result) (c .second-outside .ensures)
+    (λ t. (λ k. firstOf (blamed role.First (a .args .len) (a .pre .1 .1 .1 t .0 k .width) (y .ensures .1 .1 t k) (x .last .1 .1 .1 .1 .1 .0) ∷ [])) ∙ first-inside (c .before .before))
 
 why-states-requires : tie.Need-why-states-requires
 why-states-requires c κs = search needs
@@ -228,43 +235,63 @@ returns-3 c =
 outside-requires : tie.Need-outside-requires
 outside-requires c κs = let a = c .before .before .before .before .before .before .before .before .before .before .before .before .before .before .before .before .before .before .before .before .before .before .before .before .before .before in (width-range _ (a .pre .1 .1 .0 .0 .good (replicate 64 0) refl .width) .1, first-taken (c .before .before .before .before .before .before .before .before .before .before .before .before .before .before .before) .parts)
 
+enum-told-3 : tie.Need-enum-told-3
+enum-told-3 c = search needs
+
+enum-told-4 : tie.Need-enum-told-4
+enum-told-4 c = search needs
+
 refused-requires-4 : tie.Need-refused-requires-4
 refused-requires-4 c κs = search needs
 
 returns-4 : tie.Need-returns-4
 returns-4 c =
-    let o = c .before .before .before .before .before .before in
-    (halted o (c .refused4 .result) _ (c .refused4 .ensures) (λ u f. first-outside u _ _ _ _ f (sym (c .before .before .before .before .before .lanes-differ .ensures) ∙ c .before .before .before .before .if2 .left) (sym (c .before .before .outside .ensures) ∙ c .before .if3 .taken)), long o)
+    let o = c .before .before .before .before .before .before .before in
+    (halted o (c .refused4 .result) _ (c .refused4 .ensures ∙ c .before .enum-told4 .given .1) (λ u f. first-outside u _ _ _ _ f (agree (c .before .before .before .before .before)) (sym (c .before .before .before .outside .ensures) ∙ c .before .enum-told4 .given .1)), long o)
 
 second-outside-requires : tie.Need-second-outside-requires
 second-outside-requires c κs =
-    let a = c .before .before .before .before .before .before .before .before .before .before .before .before .before .before .before .before .before .before .before .before .before .before .before .before .before .before .before .before .before in
-    let y = c .before .before .before .before .before .before .before .before .before .before .before in (
+    let a = c .before .before .before .before .before .before .before .before .before .before .before .before .before .before .before .before .before .before .before .before .before .before .before .before .before .before .before .before .before .before in
+    let y = c .before .before .before .before .before .before .before .before .before .before .before .before in (
       width-range _ (a .pre .1 .1 .0 .1 .0 .good (replicate 64 0) refl .width) .1,
-      λ e. subst (Parts (y .second-source .result .parts)) (ap (λ b. cond b (c .before .before .before .before .before .before .before .before .before .before .before .before .before .before .before .before .before .before .as-source .last .1 .1 .1 .1 .1 .0) (y .second-source .last .1 .1 .1 .1 .1 .1 .1 .1 .1 .0)) e) (second-taken y .parts),
+      λ e. subst (Parts (y .second-source .result .parts)) (ap (λ b. cond b (c .before .before .before .before .before .before .before .before .before .before .before .before .before .before .before .before .before .before .before .as-source .last .1 .1 .1 .1 .1 .0) (y .second-source .last .1 .1 .1 .1 .1 .1 .1 .1 .1 .0)) e) (second-taken y .parts),
     )
+
+enum-told-5 : tie.Need-enum-told-5
+enum-told-5 c = search needs
+
+enum-told-6 : tie.Need-enum-told-6
+enum-told-6 c = search needs
 
 refused-requires-5 : tie.Need-refused-requires-5
 refused-requires-5 c κs = search needs
 
 returns-5 : tie.Need-returns-5
 returns-5 c =
-    let o = c .before .before .before .before .before .before .before .before .before in
-    (halted o (c .refused5 .result) _ (c .refused5 .ensures) (λ u f. second-outside u _ _ _ _ f (sym (c .before .before .before .before .before .before .before .before .lanes-differ .ensures) ∙ c .before .before .before .before .before .before .before .if2 .left) (sym (c .before .before .before .before .before .outside .ensures) ∙ c .before .before .before .before .if3 .left) (second-lies (c .before .before) ∙ c .before .if4 .taken)), long o)
+    let o = c .before .before .before .before .before .before .before .before .before .before .before in
+    (halted o (c .refused5 .result) _ (c .refused5 .ensures ∙ c .before .enum-told6 .given .1) (λ u f. second-outside u _ _ _ _ f (agree (c .before .before .before .before .before .before .before .before .before)) (first-inside (c .before .before .before .before .before)) (second-lies (c .before .before .before) ∙ c .before .enum-told6 .given .1)), long o)
 
 outside-requires-2 : tie.Need-outside-requires-2
-outside-requires-2 c κs = let a = c .before .before .before .before .before .before .before .before .before .before .before .before .before .before .before .before .before .before .before .before .before .before .before .before .before .before .before .before .before .before .before .before in (width-range _ (a .pre .1 .1 .0 .1 .1 .good (replicate 64 0) refl .width) .1, c .before .before .before .before .before .before .before .before .before .as-destination .ensures .parts)
+outside-requires-2 c κs = (width-range _ (c .before .before .before .before .before .before .before .before .before .before .before .before .before .before .before .before .before .before .before .before .before .before .before .before .before .before .before .before .before .before .before .before .before .before .pre .1 .1 .0 .1 .1 .good (replicate 64 0) refl .width) .1, c .before .before .before .before .before .before .before .before .before .before .before .as-destination .ensures .parts)
+
+enum-told-7 : tie.Need-enum-told-7
+enum-told-7 c = search needs
+
+enum-told-8 : tie.Need-enum-told-8
+enum-told-8 c = search needs
 
 refused-requires-6 : tie.Need-refused-requires-6
 refused-requires-6 c κs = search needs
 
 returns-6 : tie.Need-returns-6
 returns-6 c =
-    let o = c .before .before .before .before .before .before .before .before .before .before .before .before in
-    (halted o (c .refused6 .result) _ (c .refused6 .ensures) (λ u f. third-outside u _ _ _ _ f (sym (c .before .before .before .before .before .before .before .before .before .before .before .lanes-differ .ensures) ∙ c .before .before .before .before .before .before .before .before .before .before .if2 .left) (sym (c .before .before .before .before .before .before .before .before .outside .ensures) ∙ c .before .before .before .before .before .before .before .if3 .left) (second-lies (c .before .before .before .before .before) ∙ c .before .before .before .before .if4 .left) (sym (c .before .before .outside2 .ensures) ∙ c .before .if5 .taken)), long o)
+    let o = c .before .before .before .before .before .before .before .before .before .before .before .before .before .before .before in
+    (halted o (c .refused6 .result) _ (c .refused6 .ensures ∙ c .before .enum-told8 .given .1) (λ u f. third-outside u _ _ _ _ f (agree (c .before .before .before .before .before .before .before .before .before .before .before .before .before)) (first-inside (c .before .before .before .before .before .before .before .before .before)) (second-lies (c .before .before .before .before .before .before .before) ∙ c .before .before .before .before .before .enum-told5 .given .1) ∙ sym (c .before .before .before .outside2 .ensures) ∙ c .before .enum-told8 .given .1), long o)
 
 returns-7 : tie.Need-returns-7
-returns-7 c = let o = c .before .before .before .before .before .before .before .before .before .before .before in (passed o (sym (c .before .before .before .before .before .before .before .before .before .before .lanes-differ .ensures) ∙ c .before .before .before .before .before .before .before .before .before .if2 .left) (sym (c .before .before .before .before .before .before .before .outside .ensures) ∙ c .before .before .before .before .before .before .if3 .left) (second-lies (c .before .before .before .before) ∙ c .before .before .before .if4 .left) (sym (c .before .outside2 .ensures) ∙ c .if5 .left) _ refl, long o)
+returns-7 c =
+    let o = c .before .before .before .before .before .before .before .before .before .before .before .before .before .before in
+    (passed o (agree (c .before .before .before .before .before .before .before .before .before .before .before .before)) (first-inside (c .before .before .before .before .before .before .before .before)) (second-lies (c .before .before .before .before .before .before) ∙ c .before .before .before .before .enum-told5 .given .1) (sym (c .before .before .outside2 .ensures) ∙ c .enum-told7 .given .1) _ refl, long o)
 
 pub check-calculation-spec : {M : Type 1} → statement M
 check-calculation-spec =
@@ -298,12 +325,18 @@ check-calculation-spec =
     refused-requires-3
     returns-3
     outside-requires
+    enum-told-3
+    enum-told-4
     refused-requires-4
     returns-4
     second-outside-requires
+    enum-told-5
+    enum-told-6
     refused-requires-5
     returns-5
     outside-requires-2
+    enum-told-7
+    enum-told-8
     refused-requires-6
     returns-6
     returns-7)

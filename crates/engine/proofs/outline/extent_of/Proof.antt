@@ -3,49 +3,28 @@ use native.Mathlib.Omega.{arith}
 use Prim.Native.Nat.{ℕ, suc, _-_, _≤_, _<_}
 use mathlib.Core.Path.{_≡_, refl, sym, _∙_, ap, subst}
 use mathlib.Core.List.{List, []}
-use mathlib.Core.Bool.{Bool, true}
+use mathlib.Core.Bool.{true}
 use native.Mathlib.Numerals.{add-one}
 use lib.ListN.{length, getD}
-use borrow.Author.Tests.{ltb-true, ltb-false, not-true, not-false}
+use borrow.Author.Tests.{ltb-false, not-true, not-false}
 use Rattle.engine.specs.Loops.{elements}
 use Rattle.engine.specs.Addresses.{address}
-use Rattle.engine.specs.AddressLaws.{Small}
 use Rattle.engine.specs.Good.{RangedPattern, Accepted}
 use Rattle.engine.specs.Registers.{indexOf}
 use Rattle.engine.specs.Rows.{patternIn}
 use Rattle.engine.specs.RowLaws.{pattern-of}
 use Rattle.engine.specs.Walk.{Element, Stands}
 use Rattle.engine.specs.CountLaws.{few}
-use Rattle.engine.specs.IndexLaws.{roomy, element-length, element-small, address-index}
 use Rattle.engine.specs.OutlineLaws.{extent, extent-none, extent-some}
 use Rattle.engine.specs.declared.stream.Shape.{Shape}
-use Rattle.engine.specs.declared.stream.Pattern.{Pattern}
+use Rattle.engine.proofs.Found.{found, below, there, small, lies}
 use borrow.Author.Needs.{needs}
 use Rattle.engine.proofs.outline.extent_of.Statement.{statement}
 use Rattle.engine.proofs.outline.extent_of.Tie as tie
 
--- a search that found an element stands at it
-found : {s : Shape} {k : ℕ} {b : Bool} {v : List ℕ} → b ≡ true → Stands s k b v → Stands s k true v
-found {s} {k} {b} {v} e h = subst (λ x. Stands s k x v) e h
-
--- the element at which a walk stands
-below : {s : Shape} {k : ℕ} {v : List ℕ} → Stands s k true v → k < length (elements s)
-below h = ltb-true _ _ (sym (h .told))
-
-there : {s : Shape} {k : ℕ} {v : List ℕ} → Stands s k true v → Element s v
-there {s} {k} h = record { position = k; below = below h; here = h .here refl }
-
+-- there are few elements
 most : {s : Shape} {k : ℕ} {v : List ℕ} → Stands s k true v → Accepted s → k < 1048576
 most {s} h a = omega (arith, few s, a .few, below h)
-
-small : {s : Shape} {k : ℕ} {v : List ℕ} → Stands s k true v → Accepted s → Small v
-small {s} {k} {v} h a j = omega (arith, element-small s a v (there h) j)
-
-lies : (p : Pattern) (w : ℕ) {k : ℕ} {v : List ℕ} → Stands (p .shape) k true v → Accepted (p .shape)
-    → address p w v ≡ address p w (getD (elements (p .shape)) k [])
-lies p w {k} h a =
-    ap (address p w) (h .here refl)
-    ∙ address-index p w (getD (elements (p .shape)) k []) (element-length (p .shape) (roomy (p .shape) a) k (below h)) (a .ranged .dims)
 
 abbrev Inv-loop : tie.InvT-loop
 Inv-loop width shape row places index₀ from position₀ index position = Stands shape position true index
