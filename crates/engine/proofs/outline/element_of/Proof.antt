@@ -16,9 +16,7 @@ returns c =
     sym (element-unended _ _ (sym (k .ensures .told) ∙ not-true (k .result .ended) (c .if1 .taken)))
 
 located-in-requires : tie.Need-located-in-requires
-located-in-requires c κs =
-    let k = c .before .before .before .stream-after in
-    k .ensures .walkable (not-false (k .result .ended) (c .before .if1 .left))
+located-in-requires c κs = let k = c .before .before .before .stream-after in k .ensures .walkable (not-false (k .result .ended) (c .before .if1 .left))
 
 returns-2 : tie.Need-returns-2
 returns-2 c =
