@@ -29,7 +29,7 @@ use Rattle.engine.specs.ByteLaws.{Bytewise, value-small}
 use Rattle.engine.specs.LaneLaws.{lane-small}
 use Rattle.engine.specs.PackedLaws.{lanes-packed}
 use Rattle.engine.specs.EffectLaws.{length-lanes, lanewise-length}
-use Rattle.engine.specs.Operands.{operandOf, Taken, lanesOf}
+use Rattle.engine.specs.Operands.{operandFrom, Taken, lanesOf}
 use Rattle.engine.specs.Calculations.{lanesIn}
 use Rattle.engine.specs.declared.stream.Pattern.{Pattern}
 use Rattle.engine.specs.declared.running.Running.{Running}
@@ -131,10 +131,10 @@ taken-long p before row q most plain xs o t e =
 -- a source after a calculation
 module _ (p : Pattern) (before row : List ℕ) (q : Running) (most plain : ℕ) (xs : List (List ℤ)) (o : Ahead) (t : Taken p before q most plain row xs o) (memory lanes : List ℕ) where
   -- the lanes that it gives
-  pub source-lanes : plain ≡ q .valid → lanesIn (q .width) memory o xs lanes ≡ lanesOf (viewOf p lanes before q) (operandOf p lanes row xs q o) memory
+  pub source-lanes : plain ≡ q .valid → lanesIn (q .width) memory o xs lanes ≡ lanesOf (viewOf p lanes before q) (operandFrom p lanes row xs q o) memory
   source-lanes e = go (o .live) refl
     where
-      go : (b : Bool) → o .live ≡ b → lanesIn (q .width) memory o xs lanes ≡ lanesOf (viewOf p lanes before q) (operandOf p lanes row xs q o) memory
+      go : (b : Bool) → o .live ≡ b → lanesIn (q .width) memory o xs lanes ≡ lanesOf (viewOf p lanes before q) (operandFrom p lanes row xs q o) memory
       go true f = rw f
       go false f =
           let g : isOpen (q .state) ≡ false = sym (t .operates lanes .told) ∙ f in
@@ -143,10 +143,10 @@ module _ (p : Pattern) (before row : List ℕ) (q : Running) (most plain : ℕ) 
   -- the register
   pub source-shown : plain ≡ q .valid → (f : Running) (lanes' : List ℕ) → f ≡ cond (o .live) (filledWith (q .width) (o .count) (afterwards o q)) (afterwards o q)
       → lanes' ≡ cond (o .live) (packed (q .width) (lanesIn (q .width) memory o xs lanes)) lanes
-      → viewOf p lanes' row f ≡ cond (o .live) (holding (q .width) (lanesOf (viewOf p lanes before q) (operandOf p lanes row xs q o) memory) (viewOf p lanes row (afterwards o q))) (viewOf p lanes before q)
+      → viewOf p lanes' row f ≡ cond (o .live) (holding (q .width) (lanesOf (viewOf p lanes before q) (operandFrom p lanes row xs q o) memory) (viewOf p lanes row (afterwards o q))) (viewOf p lanes before q)
   source-shown e f lanes' g h = go (o .live) refl
     where
-      go : (b : Bool) → o .live ≡ b → viewOf p lanes' row f ≡ cond (o .live) (holding (q .width) (lanesOf (viewOf p lanes before q) (operandOf p lanes row xs q o) memory) (viewOf p lanes row (afterwards o q))) (viewOf p lanes before q)
+      go : (b : Bool) → o .live ≡ b → viewOf p lanes' row f ≡ cond (o .live) (holding (q .width) (lanesOf (viewOf p lanes before q) (operandFrom p lanes row xs q o) memory) (viewOf p lanes row (afterwards o q))) (viewOf p lanes before q)
       go true k =
           let n : o .count ≡ length (fetchedAt memory (q .width) (listedIn o xs)) = sym (length-map (listedIn o xs) (λ a. valueAt memory (natural a) (q .width)) ∙ taken-long p before row q most plain xs o t k) in
           rw k (ap₂ (λ l r. viewOf p l row r) (rw k at h) (rw k at g) ∙ filled-shown p lanes row (behind o q) (q .width) (o .count) (fetchedAt memory (q .width) (listedIn o xs)) n)

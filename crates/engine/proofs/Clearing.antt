@@ -31,7 +31,7 @@ use Rattle.engine.specs.GoodLaws.{next, more}
 use Rattle.engine.specs.CalculationLaws.{nothing}
 use Rattle.engine.specs.LaneLaws.{width-range}
 use Rattle.engine.specs.Runnings.{viewOf, bare, listedIn}
-use Rattle.engine.specs.Operands.{operandOf, Taken, blamed, whyOn}
+use Rattle.engine.specs.Operands.{operandFrom, Taken, outsideOf, whyOn}
 use Rattle.engine.specs.Calculations.{Fit, Cleared}
 use Rattle.engine.proofs.Ordered.{states, after, widths, flags, fits, one-width, store-width, target-few, third-outside}
 use Rattle.engine.proofs.Carrying.{taken-long}
@@ -81,17 +81,17 @@ moved-room vl p before q f most plain row xs o t e =
     omega (arith, c, l, ap length (chunk-elements s most (q .moved) (covered s (s .coupling) (y .accepted .covered))), y .some, few s, y .accepted .few)
 
 -- 14 refuses no operand: every element lies inside
-pub unblamed : (role : Role) (len width : ℕ) (o : Ahead) (l : List (List ℤ)) → firstOf (blamed role len width o l ∷ []) ≡ Nothing
+pub unblamed : (role : Role) (len width : ℕ) (o : Ahead) (l : List (List ℤ)) → firstOf (outsideOf role len width o l ∷ []) ≡ Nothing
     → o .live ≡ true → allWithin len width (listedIn o l) ≡ true
 unblamed role len width o l e t = not-false _ (and-false _ _ (next _ _ _ e .0) t)
 
 -- .. and it refuses none in another role
-pub no-role : (role role' : Role) (len width : ℕ) (o : Ahead) (l : List (List ℤ)) → firstOf (blamed role len width o l ∷ []) ≡ Nothing → firstOf (blamed role' len width o l ∷ []) ≡ Nothing
+pub no-role : (role role' : Role) (len width : ℕ) (o : Ahead) (l : List (List ℤ)) → firstOf (outsideOf role len width o l ∷ []) ≡ Nothing → firstOf (outsideOf role' len width o l ∷ []) ≡ Nothing
 no-role role role' len width o l e = more _ _ [] (next _ _ _ e .0) nothing
 
 -- the second source, with the first's parts if it is the first once more: it is refused exactly if it is another and lies outside
-pub second-blamed : (len width : ℕ) (same : Bool) (o : Ahead) (xs ys : List (List ℤ)) (q : Why) → q ≡ cond same Nothing (firstOf (blamed role.Second len width o ys ∷ []))
-    → (same ≡ true → firstOf (blamed role.First len width o xs ∷ []) ≡ Nothing) → firstOf (blamed role.Second len width o (cond same xs ys) ∷ []) ≡ q
+pub second-blamed : (len width : ℕ) (same : Bool) (o : Ahead) (xs ys : List (List ℤ)) (q : Why) → q ≡ cond same Nothing (firstOf (outsideOf role.Second len width o ys ∷ []))
+    → (same ≡ true → firstOf (outsideOf role.First len width o xs ∷ []) ≡ Nothing) → firstOf (outsideOf role.Second len width o (cond same xs ys) ∷ []) ≡ q
 second-blamed len width true o xs ys q e f = no-role role.First role.Second len width o xs (f refl) ∙ sym e
 second-blamed len width false o xs ys q e f = sym e
 
@@ -115,31 +115,31 @@ module _ (vl len : ℕ) (same : Bool) (pa pb pd : Pattern) (a b d : Running) (va
       (e : firstOf (states (bare a) (bare b) (bare d)) ≡ Nothing) (w : widths (bare a) (bare b) (bare d) ≡ false) where
     pub by-operands : (la lb ld memory : List ℕ) → length la ≡ 64 → length lb ≡ 64 → length ld ≡ 64 → length memory ≡ len
         → whyOn vl memory (viewOf pa la va a) (viewOf pb lb vb b) (viewOf pd ld vd d)
-        ≡ firstOf (after false (lanesDiffer x y z) (blamed role.First len (a .width) x xs) (blamed role.Second len (b .width) y ys) (blamed role.Destination len (d .width) z zs))
+        ≡ firstOf (after false (lanesDiffer x y z) (outsideOf role.First len (a .width) x xs) (outsideOf role.Second len (b .width) y ys) (outsideOf role.Destination len (d .width) z zs))
     by-operands la lb ld memory p q s t =
         flags vl memory (viewOf pa la va a) (viewOf pb lb vb b) (viewOf pd ld vd d) (fa .good la p) (fb .good lb q)
-        (operandOf pa la va' xs a x) (operandOf pb lb vb' ys b y) (operandOf pd ld vd' zs d z) (tx .operates la) (ty .operates lb) (tz .operates ld) e w
-        ∙ ap (λ n. firstOf (after false (lanesDiffer x y z) (blamed role.First n (a .width) x xs) (blamed role.Second n (b .width) y ys) (blamed role.Destination n (d .width) z zs))) t
+        (operandFrom pa la va' xs a x) (operandFrom pb lb vb' ys b y) (operandFrom pd ld vd' zs d z) (tx .operates la) (ty .operates lb) (tz .operates ld) e w
+        ∙ ap (λ n. firstOf (after false (lanesDiffer x y z) (outsideOf role.First n (a .width) x xs) (outsideOf role.Second n (b .width) y ys) (outsideOf role.Destination n (d .width) z zs))) t
 
     -- an operand refuses
     pub stopped : (r : Checked) (v : Refusal) → r .why ≡ Because v
-        → ((u : Why) → u ≡ firstOf (after false (lanesDiffer x y z) (blamed role.First len (a .width) x xs) (blamed role.Second len (b .width) y ys) (blamed role.Destination len (d .width) z zs)) → u ≡ Because v)
+        → ((u : Why) → u ≡ firstOf (after false (lanesDiffer x y z) (outsideOf role.First len (a .width) x xs) (outsideOf role.Second len (b .width) y ys) (outsideOf role.Destination len (d .width) z zs)) → u ≡ Because v)
         → Cleared vl len same pa pb pd a b d va vb vd va' vb' vd' xs ys zs r
     stopped r v f g = turned-down r v f (λ la lb ld memory p q s t. g _ (by-operands la lb ld memory p q s t))
 
-    module _ (l : lanesDiffer x y z ≡ false) (ox : firstOf (blamed role.First len (a .width) x xs ∷ []) ≡ Nothing) (oy : firstOf (blamed role.Second len (b .width) y ys ∷ []) ≡ Nothing)
-        (oz : firstOf (blamed role.Destination len (d .width) z zs ∷ []) ≡ Nothing) where
+    module _ (l : lanesDiffer x y z ≡ false) (ox : firstOf (outsideOf role.First len (a .width) x xs ∷ []) ≡ Nothing) (oy : firstOf (outsideOf role.Second len (b .width) y ys ∷ []) ≡ Nothing)
+        (oz : firstOf (outsideOf role.Destination len (d .width) z zs ∷ []) ≡ Nothing) where
       abbrev zeros : List ℕ
       zeros = replicate 64 0
 
-      none : firstOf (after false (lanesDiffer x y z) (blamed role.First len (a .width) x xs) (blamed role.Second len (b .width) y ys) (blamed role.Destination len (d .width) z zs)) ≡ Nothing
+      none : firstOf (after false (lanesDiffer x y z) (outsideOf role.First len (a .width) x xs) (outsideOf role.Second len (b .width) y ys) (outsideOf role.Destination len (d .width) z zs)) ≡ Nothing
       none = third-outside _ _ _ _ _ refl l ox oy ∙ oz
 
       one : b .width ≡ a .width
-      one = one-width vl [] (viewOf pa zeros va a) (viewOf pb zeros vb b) (viewOf pd zeros vd d) (fa .good zeros refl) (fb .good zeros refl) (operandOf pa zeros va' xs a x) (operandOf pb zeros vb' ys b y) (operandOf pd zeros vd' zs d z) (tx .operates zeros) (ty .operates zeros) (tz .operates zeros) e w
+      one = one-width vl [] (viewOf pa zeros va a) (viewOf pb zeros vb b) (viewOf pd zeros vd d) (fa .good zeros refl) (fb .good zeros refl) (operandFrom pa zeros va' xs a x) (operandFrom pb zeros vb' ys b y) (operandFrom pd zeros vd' zs d z) (tx .operates zeros) (ty .operates zeros) (tz .operates zeros) e w
 
       stores : isOpen (d .state) ≡ true → d .width ≡ a .width
-      stores = store-width vl [] (viewOf pa zeros va a) (viewOf pb zeros vb b) (viewOf pd zeros vd d) (fa .good zeros refl) (fb .good zeros refl) (operandOf pa zeros va' xs a x) (operandOf pb zeros vb' ys b y) (operandOf pd zeros vd' zs d z) (tx .operates zeros) (ty .operates zeros) (tz .operates zeros) e w
+      stores = store-width vl [] (viewOf pa zeros va a) (viewOf pb zeros vb b) (viewOf pd zeros vd d) (fa .good zeros refl) (fb .good zeros refl) (operandFrom pa zeros va' xs a x) (operandFrom pb zeros vb' ys b y) (operandFrom pd zeros vd' zs d z) (tx .operates zeros) (ty .operates zeros) (tz .operates zeros) e w
 
       -- no check refuses
       pub cleared : (same ≡ true → (y ≡ x) × (listedIn y ys ≡ listedIn x xs)) → (r : Checked) → r ≡ record { why = Nothing; first = x; second = y; destination = z }
@@ -154,11 +154,11 @@ module _ (vl len : ℕ) (same : Bool) (pa pb pd : Pattern) (a b d : Running) (va
             widths = λ t. (one, stores);
             within = λ t. record {
               wide = fa .good zeros refl .width;
-              room = omega (arith, fits vl [] (viewOf pa zeros va a) (viewOf pb zeros vb b) (viewOf pd zeros vd d) (fa .good zeros refl) (fb .good zeros refl) (operandOf pa zeros va' xs a x) (operandOf pb zeros vb' ys b y) (operandOf pd zeros vd' zs d z) (tx .operates zeros) (ty .operates zeros) (tz .operates zeros) e w);
+              room = omega (arith, fits vl [] (viewOf pa zeros va a) (viewOf pb zeros vb b) (viewOf pd zeros vd d) (fa .good zeros refl) (fb .good zeros refl) (operandFrom pa zeros va' xs a x) (operandFrom pb zeros vb' ys b y) (operandFrom pd zeros vd' zs d z) (tx .operates zeros) (ty .operates zeros) (tz .operates zeros) e w);
               counts = sym (eqb-true _ _ (not-false _ (or-false _ _ l .0)));
               fills = λ u.
                   let p : x .count ≤ z .count = ltb-false (z .count) (x .count) (and-false _ _ (or-false (not (eqb (x .count) (y .count))) _ l .1) u) in
-                  omega (arith, target-few (x .count) (viewOf pd zeros vd d) (operandOf pd zeros vd' zs d z) (tz .operates zeros));
+                  omega (arith, target-few (x .count) (viewOf pd zeros vd d) (operandFrom pd zeros vd' zs d z) (tz .operates zeros));
               first = unblamed role.First len (a .width) x xs ox;
               second = λ u. rw (one) at (unblamed role.Second len (b .width) y ys oy u);
               third = λ u. rw (stores (sym (tz .operates zeros .told) ∙ u)) at (unblamed role.Destination len (d .width) z zs oz u);

@@ -24,7 +24,7 @@ use Rattle.engine.specs.EffectLaws.{length-lanes, lanewise-length}
 use Rattle.engine.specs.Stretches.{storedAt}
 use Rattle.engine.specs.Rows.{patternAt}
 use Rattle.engine.specs.Runnings.{viewOf, Remembers, filledWith, afterwards, listedIn}
-use Rattle.engine.specs.Operands.{Operates, operandOf, Taken, lanesOf, lanesOut, whyOn, resultsOn, Calculated, CarriedOut}
+use Rattle.engine.specs.Operands.{Operates, operandFrom, Taken, lanesOf, lanesOut, whyOn, resultsOn, Calculated, CarriedOut}
 use Rattle.engine.specs.OperandLaws.{source-count}
 use Rattle.engine.specs.Calculate.{memoryAfter}
 use Rattle.engine.specs.Calculations.{lanesIn, outcomeOf, Fit, Within, Cleared, Carries}
@@ -138,22 +138,22 @@ module _ (vl : ℕ) (same : Bool) (pa pb pd : Pattern) (a b d : Running) (va vb 
     one : b .width ≡ a .width
     one = c .widths e .0
 
-    first-lanes : lanesIn (a .width) memory (r .first) xs la ≡ lanesOf (viewOf pa la va a) (operandOf pa la va' xs a (r .first)) memory
+    first-lanes : lanesIn (a .width) memory (r .first) xs la ≡ lanesOf (viewOf pa la va a) (operandFrom pa la va' xs a (r .first)) memory
     first-lanes = source-lanes pa va va' a (vl / a .width) (a .valid) xs (r .first) tx memory la refl
 
-    second-lanes : lanesIn (a .width) memory (r .second) ys lb ≡ lanesOf (viewOf pb lb vb b) (operandOf pb lb vb' ys b (r .second)) memory
+    second-lanes : lanesIn (a .width) memory (r .second) ys lb ≡ lanesOf (viewOf pb lb vb b) (operandFrom pb lb vb' ys b (r .second)) memory
     second-lanes = ap (λ w. lanesIn w memory (r .second) ys lb) (sym one) ∙ source-lanes pb vb vb' b (vl / b .width) (b .valid) ys (r .second) ty memory lb refl
 
-    out : outcomeOf action (a .width) memory (r .first) (r .second) xs ys la lb ≡ lanesOut action memory (viewOf pa la va a) (viewOf pb lb vb b) (operandOf pa la va' xs a (r .first)) (operandOf pb lb vb' ys b (r .second))
+    out : outcomeOf action (a .width) memory (r .first) (r .second) xs ys la lb ≡ lanesOut action memory (viewOf pa la va a) (viewOf pb lb vb b) (operandFrom pa la va' xs a (r .first)) (operandFrom pb lb vb' ys b (r .second))
     out = ap₂ (lanewise (lane action (8 * a .width))) first-lanes second-lanes
 
     -- a calculation that was carried out
     calculated : Calculated vl action memory (viewOf pa la va a) (viewOf pb lb vb b) (viewOf pd ld vd d) (r .why) (viewOf pa la' va' (q .first)) (viewOf pb lb' vb' (q .second)) (viewOf pd ld' vd' (q .destination)) memory'
     calculated =
         let w = c .within e in
-        let x = operandOf pa la va' xs a (r .first) in
-        let y = operandOf pb lb vb' ys b (r .second) in
-        let z = operandOf pd ld vd' zs d (r .destination) in
+        let x = operandFrom pa la va' xs a (r .first) in
+        let y = operandFrom pb lb vb' ys b (r .second) in
+        let z = operandFrom pd ld vd' zs d (r .destination) in
         let g = fa .good la ea in
         let n : r .first .count ≡ length (outcomeOf action (a .width) memory (r .first) (r .second) xs ys la lb) =
         sym (lanewise-length _ (lanesIn (a .width) memory (r .first) xs la) (lanesIn (a .width) memory (r .second) ys lb)

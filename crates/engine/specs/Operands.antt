@@ -1,8 +1,8 @@
 -- A calculation's registers as its code takes them: looked at, read, written.
 --
 --   Operand, Operates              a register as an operand
---   operandOf, Taken               the same as the code keeps it
---   outsideAt, blamed              14 at addresses; of an operand
+--   operandFrom, Taken             the same as the code keeps it
+--   outsideAt, outsideOf           14 at addresses; of an operand
 --   lanesOf                        the lanes that an operand gives
 --   resultsOn, whyOn, Calculated   a calculation on three registers and a memory
 --   lanesOut, CarriedOut           the calculation carried out on operands
@@ -46,12 +46,12 @@ pub record Operates (r : Register) (most plain : ℕ) (o : Operand) : Type 0 whe
   pub after : o .after ≡ cond (isOpen (r .state)) (movedBy (o .count) r) r
 
 -- an operand as the code keeps it: with the pattern, the lanes, the row of indices after it and the array of parts
-abbrev pub operandOf : Pattern → List ℕ → List ℕ → List (List ℤ) → Running → Ahead → Operand
-operandOf p lanes row xs q o = record { live = o .live; count = o .count; addresses = listedIn o xs; after = viewOf p lanes row (afterwards o q) }
+abbrev pub operandFrom : Pattern → List ℕ → List ℕ → List (List ℤ) → Running → Ahead → Operand
+operandFrom p lanes row xs q o = record { live = o .live; count = o .count; addresses = listedIn o xs; after = viewOf p lanes row (afterwards o q) }
 
 -- a running register taken as an operand
 pub record Taken (p : Pattern) (before : List ℕ) (q : Running) (most plain : ℕ) (row : List ℕ) (xs : List (List ℤ)) (o : Ahead) : Type 0 where
-  pub operates : (lanes : List ℕ) → Operates (viewOf p lanes before q) most plain (operandOf p lanes row xs q o)
+  pub operates : (lanes : List ℕ) → Operates (viewOf p lanes before q) most plain (operandFrom p lanes row xs q o)
   pub parts : Parts (o .parts) xs
   pub remembers : Remembers p row (afterwards o q)
   pub long : length xs ≡ 64
@@ -61,8 +61,8 @@ abbrev pub outsideAt : Role → ℕ → ℕ → Bool → List ℤ → Check
 outsideAt role len width live l = Outside (laneWithout len width l) role if (live && not (allWithin len width l))
 
 -- 14 of an operand as the code keeps it
-abbrev pub blamed : Role → ℕ → ℕ → Ahead → List (List ℤ) → Check
-blamed role len width o xs = outsideAt role len width (o .live) (listedIn o xs)
+abbrev pub outsideOf : Role → ℕ → ℕ → Ahead → List (List ℤ) → Check
+outsideOf role len width o xs = outsideAt role len width (o .live) (listedIn o xs)
 
 -- the lanes that an operand gives: those in memory at its addresses, or the register's own
 abbrev pub lanesOf : Register → Operand → List ℕ → List ℕ

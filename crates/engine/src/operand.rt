@@ -27,7 +27,7 @@ ghost use Rattle.engine.specs.Places.{Ready};
 ghost use Rattle.engine.specs.Rows.{patternIn};
 ghost use Rattle.engine.specs.Stretches.{Parts};
 ghost use Rattle.engine.specs.Runnings.{viewOf, Remembers, listedIn, filledWith, afterwards};
-ghost use Rattle.engine.specs.Operands.{Taken, blamed};
+ghost use Rattle.engine.specs.Operands.{Taken, outsideOf};
 
 // A register that is no open stream: so many lanes, and nothing moves.
 pub(crate) fn unmoved(plain: usize) -> Ahead
@@ -121,7 +121,7 @@ pub(crate) fn as_destination(
 // 14: an element that an open stream would move lies outside memory. It names the first lane that does.
 pub(crate) fn outside(role: Role, o: Ahead, width: u64, len: usize, parts: &[[i64; 3]; 64]) -> Why
     requires { ⌜ (width ≤ 8) × Parts (o .parts) (now parts) ⌝ }
-    ensures { λ q. ⌜ q ≡ firstOf (blamed role len width o (now (parts .entry)) ∷ []) ⌝ }
+    ensures { λ q. ⌜ q ≡ firstOf (outsideOf role len width o (now (parts .entry)) ∷ []) ⌝ }
 {
     if !o.live {
         return Why::Nothing;
@@ -141,7 +141,7 @@ pub(crate) fn second_outside(
     parts: &[[i64; 3]; 64],
 ) -> Why
     requires { ⌜ (width ≤ 8) × (same ≡ false → Parts (o .parts) (now parts)) ⌝ }
-    ensures { λ q. ⌜ q ≡ cond same Nothing (firstOf (blamed role.Second len width o (now (parts .entry)) ∷ [])) ⌝ }
+    ensures { λ q. ⌜ q ≡ cond same Nothing (firstOf (outsideOf role.Second len width o (now (parts .entry)) ∷ [])) ⌝ }
 {
     if same {
         return Why::Nothing;

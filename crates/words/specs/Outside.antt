@@ -4,14 +4,12 @@
 --   laneAt s m place lane role == where a lane lies that the calculation at a place of a sheet would move
 use Prim.Native.Nat.{ℕ, _+_, _%_, _^_}
 use mathlib.Core.List.{List}
-use lib.ListN.{length}
 use Rattle.codec.specs.Operations.{calculationAt}
 use Rattle.codec.specs.declared.refusal.Role.{Role}
 use Rattle.codec.specs.declared.operation.Body.{Body}
 use Rattle.codec.specs.declared.operation.Body.the-variants as body
 use Rattle.engine.specs.Registers.{freshMachine, reg}
-use Rattle.engine.specs.Sheets.{operationsFrom}
-use Rattle.engine.specs.Bodies.{settledOf}
+use Rattle.engine.specs.Sheets.{prepare}
 use Rattle.engine.specs.Outlines.{elementOf}
 use Rattle.engine.specs.Blame.{operandIn}
 use Rattle.engine.specs.declared.register.Machine.{Machine}
@@ -20,7 +18,7 @@ use Rattle.engine.specs.declared.outline.Located.the-variants.{Nowhere}
 
 -- the registers that the operations of a sheet set up; its run, if it has one, is not executed
 abbrev pub setUp : List ℕ → Machine
-setUp s = settledOf (operationsFrom (length s) s 0 freshMachine) .machine
+setUp s = prepare s freshMachine .machine
 
 -- where the element lies so many behind those that have moved of a register's stream, if there is one
 abbrev pub elementAhead : List ℕ → Machine → ℕ → ℕ → Located

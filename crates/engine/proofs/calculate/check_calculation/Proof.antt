@@ -11,7 +11,7 @@ use Rattle.engine.specs.Checks.{Check, firstOf}
 use Rattle.engine.specs.Rows.{patternAt}
 use Rattle.engine.specs.Stretches.{Parts}
 use Rattle.engine.specs.Runnings.{viewOf, bare, listedIn}
-use Rattle.engine.specs.Operands.{Taken, operandOf, blamed}
+use Rattle.engine.specs.Operands.{Taken, operandFrom, outsideOf}
 use Rattle.engine.specs.LaneLaws.{width-range}
 use Rattle.codec.specs.declared.refusal.Role.the-variants as role
 use Rattle.codec.specs.declared.refusal.Refusal.{Refusal}
@@ -59,7 +59,7 @@ first-few c =
     let a = c .before .before .before .before .before .before .before .before .before .before .before in
     let x = c .as-source in
     let p = patternAt (a .args .shapes .now) (a .args .places .now) (a .args .i) in
-    source-few (a .args .vl) [] (viewOf p (replicate 64 0) (a .args .va .now) (a .args .a)) (operandOf p (replicate 64 0) (x .last .1 .1 .1 .1 .0) (x .last .1 .1 .1 .1 .1 .0) (a .args .a) (x .result)) (a .pre .0 .0 .1) (a .pre .1 .1 .0 .0 .good (replicate 64 0) refl) (first-taken c .operates (replicate 64 0))
+    source-few (a .args .vl) [] (viewOf p (replicate 64 0) (a .args .va .now) (a .args .a)) (operandFrom p (replicate 64 0) (x .last .1 .1 .1 .1 .0) (x .last .1 .1 .1 .1 .1 .0) (a .args .a) (x .result)) (a .pre .0 .0 .1) (a .pre .1 .1 .0 .0 .good (replicate 64 0) refl) (first-taken c .operates (replicate 64 0))
 
 -- what the checks found once the three operands were looked at
 abbrev Told : tie.After-as-destination → Checked → Type 0
@@ -76,13 +76,13 @@ abbrev differ : tie.After-as-destination → Bool
 differ c = lanesDiffer (c .before .before .before .before .before .before .before .before .before .before .before .before .as-source .result) (c .before .before .before .before .before .second-source .result) (c .as-destination .result)
 
 abbrev first-beyond : tie.After-as-destination → Check
-first-beyond c = let a = c .before .before .before .before .before .before .before .before .before .before .before .before .before .before .before .before .before .before .before .before .before .before .before .args in let x = c .before .before .before .before .before .before .before .before .before .before .before .before .as-source in blamed role.First (a .len) (a .a .width) (x .result) (x .last .1 .1 .1 .1 .1 .0)
+first-beyond c = let a = c .before .before .before .before .before .before .before .before .before .before .before .before .before .before .before .before .before .before .before .before .before .before .before .args in let x = c .before .before .before .before .before .before .before .before .before .before .before .before .as-source in outsideOf role.First (a .len) (a .a .width) (x .result) (x .last .1 .1 .1 .1 .1 .0)
 
 abbrev other-beyond : tie.After-as-destination → Check
-other-beyond c = let a = c .before .before .before .before .before .before .before .before .before .before .before .before .before .before .before .before .before .before .before .before .before .before .before .args in let x = c .before .before .before .before .before .before .before .before .before .before .before .before .as-source in let y = c .before .before .before .before .before .second-source in blamed role.Second (a .len) (a .b .width) (y .result) (cond (a .same) (x .last .1 .1 .1 .1 .1 .0) (y .last .1 .1 .1 .1 .1 .1 .1 .1 .1 .0))
+other-beyond c = let a = c .before .before .before .before .before .before .before .before .before .before .before .before .before .before .before .before .before .before .before .before .before .before .before .args in let x = c .before .before .before .before .before .before .before .before .before .before .before .before .as-source in let y = c .before .before .before .before .before .second-source in outsideOf role.Second (a .len) (a .b .width) (y .result) (cond (a .same) (x .last .1 .1 .1 .1 .1 .0) (y .last .1 .1 .1 .1 .1 .1 .1 .1 .1 .0))
 
 abbrev target-beyond : tie.After-as-destination → Check
-target-beyond c = let a = c .before .before .before .before .before .before .before .before .before .before .before .before .before .before .before .before .before .before .before .before .before .before .before .args in let z = c .as-destination in blamed role.Destination (a .len) (a .d .width) (z .result) (z .last .1 .1 .1 .1 .1 .0)
+target-beyond c = let a = c .before .before .before .before .before .before .before .before .before .before .before .before .before .before .before .before .before .before .before .before .before .before .before .args in let z = c .as-destination in outsideOf role.Destination (a .len) (a .d .width) (z .result) (z .last .1 .1 .1 .1 .1 .0)
 
 -- an operand refuses
 halted : (c : tie.After-as-destination) (r : Checked) (v : Refusal) → r .why ≡ Because v
@@ -124,7 +124,7 @@ second-lies c =
     let x = o .before .before .before .before .before .before .before .before .before .before .before .before .as-source in
     let y = o .before .before .before .before .before .second-source in
     second-blamed (a .args .len) (a .args .b .width) (a .args .same) (y .result) (x .last .1 .1 .1 .1 .1 .0) (y .last .1 .1 .1 .1 .1 .1 .1 .1 .1 .0) (c .second-outside .result) (c .second-outside .ensures)
-    (λ t. (λ k. firstOf (blamed role.First (a .args .len) (a .pre .1 .1 .1 t .0 k .width) (y .ensures .1 .1 t k) (x .last .1 .1 .1 .1 .1 .0) ∷ [])) ∙ first-inside (c .before .before))
+    (λ t. (λ k. firstOf (outsideOf role.First (a .args .len) (a .pre .1 .1 .1 t .0 k .width) (y .ensures .1 .1 t k) (x .last .1 .1 .1 .1 .1 .0) ∷ [])) ∙ first-inside (c .before .before))
 
 why-states-requires : tie.Need-why-states-requires
 why-states-requires c κs = search needs
