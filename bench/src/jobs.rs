@@ -58,7 +58,12 @@ impl Sheet {
 
     /// One calculation, loop register 1.
     fn run(self, operation: u64, destination: u64, first: u64, second: u64) -> Vec<u8> {
-        self.put(&[5, 1, 1, operation, destination, first, second]).0
+        self.body(&[[operation, destination, first, second]])
+    }
+
+    /// These calculations, loop register 1.
+    fn body(self, calculations: &[[u64; 4]]) -> Vec<u8> {
+        self.put(&[5, 1, calculations.len() as u64]).put(&calculations.concat()).0
     }
 }
 
@@ -91,6 +96,20 @@ fn add_plain(size: usize, memory: &mut [u8]) {
         let sum = word(memory, 4 * i).wrapping_add(word(memory, 16_384 + 4 * i));
         memory[32_768 + 4 * i..][..4].copy_from_slice(&sum.to_le_bytes());
     }
+}
+
+/// Rows of 1,000 words, each cut into chunks, the last of them ragged: each chunk's sum is added to the sum of all, which memory holds.
+fn sums(size: usize) -> Vec<u8> {
+    let sheet = Sheet::new().open(1, LOAD, 2, 1, 0).dimension(1, 1_000, 1).dimension(1, size, 1_000).end(1);
+    // The sum so far, one lane at a time, read and written once for each chunk.
+    let sheet = sheet.open(2, LOAD, 2, 1, 49_152).dimension(2, 1, 0).dimension(2, 4_096, 0).end(2);
+    sheet.open(3, STORE, 2, 0, 49_152).dimension(3, 4_096, 0).end(3).body(&[[8, 4, 1, 1], [1, 3, 4, 2]])
+}
+
+fn sums_plain(size: usize, memory: &mut [u8]) {
+    let word = |at: usize| u32::from_le_bytes(memory[at..at + 4].try_into().unwrap());
+    let sum = (0..1_000 * size).fold(word(49_152), |sum, i| sum.wrapping_add(word(4 * i)));
+    memory[49_152..49_156].copy_from_slice(&sum.to_le_bytes());
 }
 
 /// Every second pixel of rows of 256, packed.
@@ -217,10 +236,11 @@ fn lonely_stores_plain(size: usize, memory: &mut [u8]) {
     }
 }
 
-pub const JOBS: [Job; 9] = [
+pub const JOBS: [Job; 10] = [
     Job { name: "copy of bytes, length 64", vl: 64, sizes: [16, 32], sheet: copy, plain: copy_plain, elements: |size| 1_024 * size },
     Job { name: "copy of bytes, length 8", vl: 8, sizes: [16, 32], sheet: copy, plain: copy_plain, elements: |size| 1_024 * size },
     Job { name: "add of words", vl: 64, sizes: [2, 4], sheet: add, plain: add_plain, elements: |size| 1_024 * size },
+    Job { name: "sum of words, ragged rows", vl: 64, sizes: [6, 12], sheet: sums, plain: sums_plain, elements: |size| 1_000 * size },
     Job { name: "2-D with stride", vl: 64, sizes: [64, 128], sheet: strided, plain: strided_plain, elements: |size| 128 * size },
     Job { name: "triangle", vl: 64, sizes: [127, 180], sheet: triangle, plain: triangle_plain, elements: |size| size * (size + 1) / 2 },
     Job {

@@ -63,11 +63,43 @@ impl Role {
     }
 }
 
-/// What an operation makes of two lanes of `width` bytes.
+/// Whether an operation is one of 8 to 11, over all valid lanes of a source.
+pub fn folds(operation: u64) -> bool {
+    operation >= 8
+}
+
+/// Whether the second source of an operation must equal the first.
+pub fn has_one_source(operation: u64) -> bool {
+    operation == 0 || folds(operation)
+}
+
+/// How many lanes the destination takes of sources of `n` lanes.
+pub fn taken(operation: u64, n: usize) -> usize {
+    if folds(operation) {
+        1
+    } else {
+        n
+    }
+}
+
+/// How many values a lane of `width` bytes can have.
+fn values_of(width: usize) -> i128 {
+    1 << (8 * width)
+}
+
+/// A lane of `width` bytes, read as two's complement.
+pub fn signed(lane: u64, width: usize) -> i128 {
+    let (value, size) = (i128::from(lane), values_of(width));
+    if value >= size / 2 {
+        value - size
+    } else {
+        value
+    }
+}
+
+/// What one of the operations 0 to 7 makes of two lanes of `width` bytes.
 pub fn lane(operation: u64, width: usize, first: u64, second: u64) -> u64 {
-    let size = 1_i128 << (8 * width);
     let (a, b) = (i128::from(first), i128::from(second));
-    let signed = |value: i128| if value >= size / 2 { value - size } else { value };
     let exact = match operation {
         0 => a,
         1 => a + b,
@@ -75,10 +107,27 @@ pub fn lane(operation: u64, width: usize, first: u64, second: u64) -> u64 {
         3 => a & b,
         4 => a | b,
         5 => a ^ b,
-        6 => signed(a).min(signed(b)),
-        _ => signed(a).max(signed(b)),
+        6 => signed(first, width).min(signed(second, width)),
+        _ => signed(first, width).max(signed(second, width)),
     };
-    exact.rem_euclid(size) as u64
+    exact.rem_euclid(values_of(width)) as u64
+}
+
+/// What one of the operations 8 to 11 makes of lanes of `width` bytes. Only a sum can do without a lane.
+pub fn fold(operation: u64, width: usize, lanes: &[u64]) -> u64 {
+    let signed: Vec<i128> = lanes.iter().map(|&lane| signed(lane, width)).collect();
+    let exact = match operation {
+        8 => lanes.iter().map(|&lane| i128::from(lane)).sum(),
+        9 => *signed.iter().min().expect("no lanes are refused with 18"),
+        10 => *signed.iter().max().expect("no lanes are refused with 18"),
+        _ => first_largest(&signed) as i128,
+    };
+    exact.rem_euclid(values_of(width)) as u64
+}
+
+/// The first place that no other exceeds.
+fn first_largest(values: &[i128]) -> usize {
+    (0..values.len()).find(|&at| values.iter().all(|value| *value <= values[at])).expect("no lanes are refused with 18")
 }
 
 /// The little-endian value of some bytes.
@@ -89,30 +138,24 @@ pub fn value(bytes: &[u8]) -> u64 {
 impl Machine<'_> {
     /// Carries out a calculation, or refuses it and changes nothing.
     pub fn calculate(&mut self, c: &Calculation) -> Result<(), Fault> {
-        self.usable(c.first, Role::First)?;
-        self.usable(c.second, Role::Second)?;
-        self.usable(c.destination, Role::Destination)?;
-        for register in [c.first, c.second, c.destination] {
-            self.list_ahead(register);
-        }
-        self.widths(c)?;
-        self.lanes(c)?;
-        let n = self.lanes_of(c.first);
-        let width = self.registers[c.first].width;
-        let written: Vec<i64> = self.addresses(c.destination).into_iter().take(n).collect();
-        if let Err(fault) = self.inside(c, &written) {
-            self.note_outside(c, &written);
+        if let Err(fault) = self.check(c) {
+            self.note_refused(c, fault.clause);
             return Err(fault);
         }
-
+        let width = self.registers[c.first].width;
+        let written = self.written(c);
         let first = self.values(c.first);
         let second = self.values(c.second);
-        self.note_sources(c, n, &written);
+        self.note_sources(c, &first, &written);
         self.take(c.first, &first);
         if c.second != c.first {
             self.take(c.second, &second);
         }
-        let result: Vec<u64> = (0..n).map(|i| lane(c.operation, width, first[i], second[i])).collect();
+        let result: Vec<u64> = if folds(c.operation) {
+            vec![fold(c.operation, width, &first)]
+        } else {
+            (0..first.len()).map(|i| lane(c.operation, width, first[i], second[i])).collect()
+        };
         if self.registers[c.destination].state == State::Plain {
             self.registers[c.destination].width = width;
             self.hold(c.destination, &result);
@@ -121,9 +164,23 @@ impl Machine<'_> {
                 let at = address as usize;
                 self.memory[at..at + width].copy_from_slice(&value.to_le_bytes()[..width]);
             }
-            self.move_on(c.destination, n);
+            self.move_on(c.destination, result.len());
         }
         Ok(())
+    }
+
+    /// All that can be refused, in turn.
+    fn check(&mut self, c: &Calculation) -> Result<(), Fault> {
+        self.usable(c.first, Role::First)?;
+        self.usable(c.second, Role::Second)?;
+        self.usable(c.destination, Role::Destination)?;
+        for register in [c.first, c.second, c.destination] {
+            self.list_ahead(register);
+        }
+        self.widths(c)?;
+        self.lanes(c)?;
+        self.some_lanes(c)?;
+        self.inside(c)
     }
 
     /// 5, 11, 10 for one register.
@@ -162,16 +219,27 @@ impl Machine<'_> {
         Ok(())
     }
 
-    /// 13.
+    /// 13. It does not come with 8 to 11, so never where 18 would apply too: there is one source, and an open store stream has room for a
+    /// single lane.
     fn lanes(&self, c: &Calculation) -> Result<(), Clause> {
         let n = self.lanes_of(c.first);
         if n != self.lanes_of(c.second) {
             return Err(Clause::LanesOfSources);
         }
-        if self.registers[c.destination].state == State::Open && n > self.lanes_of(c.destination) {
+        if self.registers[c.destination].state == State::Open && taken(c.operation, n) > self.lanes_of(c.destination) {
             return Err(Clause::LanesOfStore);
         }
         Ok(())
+    }
+
+    /// 18.
+    fn some_lanes(&self, c: &Calculation) -> Result<(), Clause> {
+        match c.operation {
+            9 if self.lanes_of(c.first) == 0 => Err(Clause::NoLanesSmallest),
+            10 if self.lanes_of(c.first) == 0 => Err(Clause::NoLanesLargest),
+            11 if self.lanes_of(c.first) == 0 => Err(Clause::NoLanesFirstLargest),
+            _ => Ok(()),
+        }
     }
 
     /// The length of an open stream's next chunk, or the valid lanes of a plain register.
@@ -192,12 +260,18 @@ impl Machine<'_> {
         }
     }
 
+    /// The addresses of the elements that a calculation writes; none for a plain destination.
+    pub fn written(&self, c: &Calculation) -> Vec<i64> {
+        let taken = taken(c.operation, self.lanes_of(c.first));
+        self.addresses(c.destination).into_iter().take(taken).collect()
+    }
+
     /// 14, of the elements that would move: those of both sources in turn, then those to be written.
-    fn inside(&self, c: &Calculation, written: &[i64]) -> Result<(), Fault> {
+    fn inside(&self, c: &Calculation) -> Result<(), Fault> {
         let width = self.registers[c.first].width;
         self.all_inside(&self.addresses(c.first), width, Role::First)?;
         self.all_inside(&self.addresses(c.second), width, Role::Second)?;
-        self.all_inside(written, width, Role::Destination)
+        self.all_inside(&self.written(c), width, Role::Destination)
     }
 
     /// 14 for one role, with the first lane outside.
@@ -292,6 +366,32 @@ mod tests {
             assert_eq!(lane(5, width, top, sign), sign - 1);
             assert_eq!(lane(6, width, top, 0), top);
             assert_eq!(lane(7, width, sign - 1, sign), sign - 1);
+        }
+    }
+
+    #[test]
+    fn folds_of_every_width() {
+        for width in [1, 2, 4, 8] {
+            let top = u64::MAX >> (64 - 8 * width);
+            let sign = top / 2 + 1;
+            // In order as two's complement: sign, sign + 1, top (-1), 0, 1, sign - 1.
+            let rows: [(&[u64], [u64; 4]); 7] = [
+                (&[5], [5, 5, 5, 0]),
+                (&[3, 7, 7, 1], [18, 1, 7, 1]),
+                (&[0, top, sign, 1], [sign, sign, 1, 3]),
+                (&[top, sign, top], [sign - 2, sign, top, 0]),
+                (&[sign, sign], [0, sign, sign, 0]),
+                (&[sign, sign - 1, sign + 1], [sign, sign, sign - 1, 1]),
+                (&[0, 0, 0], [0, 0, 0, 0]),
+            ];
+            for (lanes, expected) in rows {
+                assert_eq!([8, 9, 10, 11].map(|operation| fold(operation, width, lanes)), expected, "{lanes:x?}");
+            }
+            assert_eq!(fold(8, width, &[]), 0);
+            assert_eq!(fold(8, width, &vec![top; 64]), top - 63);
+            let mut last = vec![sign; 64];
+            last[63] = top;
+            assert_eq!(fold(11, width, &last), 63);
         }
     }
 }

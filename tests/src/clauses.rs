@@ -53,11 +53,15 @@ cases!(Clause in u64 {
         RunLoopRegister "run: loop register",
         RunCountZero "run: no calculation",
         RunCountAbove "run: more than 16 calculations",
-        CalculationOperation "calculation: operation",
+        CalculationOperation "calculation: operation above 11",
         CalculationDestination "calculation: destination",
         CalculationFirst "calculation: first source",
         CalculationSecond "calculation: second source",
         CopyDiffers "calculation: copy with two sources",
+        SumDiffers "calculation: sum with two sources",
+        SmallestDiffers "calculation: smallest with two sources",
+        LargestDiffers "calculation: largest with two sources",
+        FirstLargestDiffers "calculation: first largest with two sources",
         BytesAfterRun "bytes after run",
         NestWidth "nest: width code",
         NestLoopsZero "nest: no loop",
@@ -170,6 +174,11 @@ cases!(Clause in u64 {
     17 {
         NoRoom "no room for the translated sheet",
     }
+    18 {
+        NoLanesSmallest "no lanes for smallest",
+        NoLanesLargest "no lanes for largest",
+        NoLanesFirstLargest "no lanes for first largest",
+    }
 });
 
 cases!(Event in &'static str {
@@ -182,13 +191,47 @@ cases!(Event in &'static str {
         XorDone "xor completed",
         SmallerDone "signed smaller completed",
         LargerDone "signed larger completed",
+        SumDone "sum completed",
+        SmallestDone "signed smallest completed",
+        LargestDone "signed largest completed",
+        FirstLargestDone "first largest completed",
         Width1 "lanes of 1 byte moved",
         Width2 "lanes of 2 bytes moved",
         Width4 "lanes of 4 bytes moved",
         Width8 "lanes of 8 bytes moved",
     }
+    "8 to 11" {
+        FoldWidth1 "over lanes of 1 byte",
+        FoldWidth2 "over lanes of 2 bytes",
+        FoldWidth4 "over lanes of 4 bytes",
+        FoldWidth8 "over lanes of 8 bytes",
+        FoldOneLane "over a single lane",
+        FoldChunk "over a chunk of all lanes",
+        FoldAtEnd "over a chunk cut by the end of the stream",
+        FoldCoupled "over a chunk cut by the end of a coupled pass",
+        FoldPlain "over more than one lane of a plain register",
+        FoldInPlace "over more than one lane of a plain register, which is also the destination",
+        FoldOntoLanes "into another plain register that held more than one lane",
+        FoldStored "into a store stream",
+        FoldBehindOutside "into a store stream, with an element outside behind the one written",
+        SumNone "a sum over no lanes",
+        SumNoneStored "a sum over no lanes, stored",
+        SumWraps "a sum that wraps",
+        SmallestBySign "a smallest that is not the smallest without signs",
+        LargestBySign "a largest that is not the largest without signs",
+        LargestNegative "a largest of more than one lane, all negative",
+        FirstLargestBySign "a first largest that is another lane without signs",
+        FirstLargestTie "a first largest with an equal lane behind it",
+        FirstLargestLast "a first largest in the last lane of more than one",
+        FoldSourceOutside "14 of the source",
+        FoldStoreOutside "14 of the element to be written",
+        FoldBothOutside "14 of the source, with the element to be written outside too",
+        NoLanesOutside "18, with the element to be written outside",
+        NoLanesUnusable "5, 10 or 11 of the destination, where 18 would apply too",
+        NoLanesWidth "12, where 18 would apply too",
+    }
     "sources" {
-        ReadTwiceNamed "a load stream named twice, read once",
+        ReadTwiceNamed "a load stream named twice where two sources are allowed, read once",
         ReadTwoStreams "two load streams read in one calculation",
         SourcePlain "a plain source with lanes",
         SourceNone "a plain source without lanes",
@@ -279,13 +322,13 @@ impl Hits {
 
 /// The events of one sheet.
 #[derive(Clone, Default)]
-pub struct Seen(u64);
+pub struct Seen(u128);
 
-const _: () = assert!(Event::ALL.len() <= 64);
+const _: () = assert!(Event::ALL.len() <= 128);
 
 impl Seen {
     pub fn mark(&mut self, event: Event) {
-        self.0 |= 1 << event as u64;
+        self.0 |= 1 << event as u128;
     }
 
     pub fn mark_if(&mut self, holds: bool, event: Event) {
@@ -295,7 +338,7 @@ impl Seen {
     }
 
     pub fn has(&self, event: Event) -> bool {
-        self.0 >> event as u64 & 1 == 1
+        self.0 >> event as u128 & 1 == 1
     }
 }
 
@@ -306,7 +349,8 @@ impl Clause {
     }
 
     /// Whether a calculation of a later pass can be refused so. Being configured, and load or store, do not change during a run, so 5
-    /// and 10 come in the first pass or never.
+    /// and 10 come in the first pass or never. So does 18: a plain register that has lanes at some point of the first pass has lanes at
+    /// that point of every later one.
     pub fn can_come_later(self) -> bool {
         (11..=14).contains(&self.number())
     }

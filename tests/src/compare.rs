@@ -5,6 +5,7 @@ use std::time::{Duration, Instant};
 use tests::clauses::Hits;
 use tests::generate::nests::NestInput;
 use tests::generate::SheetInput;
+use tests::mark::{self, Job};
 use tests::model;
 use tests::nest::{self, Went};
 use tests::random::Random;
@@ -231,6 +232,21 @@ fn runs_of(nest: &nest::Nest, input: &NestInput, random: &mut Random, tally: &mu
             let mut memory = input.memory.clone();
             engine::run(&run.sheet, vl, &mut memory, &mut vec![0; report::BYTES]);
             same_bytes("memory against the plain loop", &memory, &plain).map_err(at)?;
+        }
+    }
+    Ok(())
+}
+
+/// A sheet of the mark's centroid on images, held to its plain loop.
+pub fn mark(job: &Job, vl: u64) -> Result<(), String> {
+    for image in mark::images() {
+        for (name, run) in [("", engine::run as Run), ("fast model: ", fast::run)] {
+            let mut memory = job.memory(&image);
+            let number = run(&job.sheet(), vl, &mut memory, &mut vec![0; report::BYTES]);
+            if number != 0 {
+                return Err(format!("{name}refused with {number}"));
+            }
+            job.held(&image, &memory).map_err(|difference| format!("{name}{difference}"))?;
         }
     }
     Ok(())

@@ -1,5 +1,7 @@
 //! The examples of document 01, worked out by hand from its text.
 
+mod row_sums;
+
 use crate::calculation::{Outside, Role};
 use crate::clauses::Clause;
 use crate::model::{run, Answer, Refusal, State};
@@ -311,7 +313,7 @@ fn places() {
         (vec![5, 1, 0], (2, at)),
         (vec![5, 1, 17], (2, at)),
         (vec![5, 1, 1], (1, at + 3)),
-        (vec![5, 1, 1, 8], (2, at + 3)),
+        (vec![5, 1, 1, 12], (2, at + 3)),
         (vec![5, 1, 2, 0, 2, 1, 1, 0, 2, 1, 2], (2, at + 7)),
         (vec![5, 1, 1, 0, 2, 1, 1, 128], (2, at + 7)),
         (vec![5, 1, 1, 0, 2, 3, 3], (16, at)),

@@ -8,6 +8,7 @@ pub mod fixed;
 pub mod nests;
 pub mod plan;
 pub mod soup;
+pub mod sums;
 
 use crate::numbers::put;
 use crate::random::Random;
@@ -62,14 +63,14 @@ pub fn sheet(seed: u64, number: u64) -> SheetInput {
         _ => written(&operations),
     };
     let (vl, memory) = lengths(&mut random, vl, memory);
-    let memory = random.bytes(memory);
+    let memory = if random.one_in(6) { random.few_bytes(memory) } else { random.bytes(memory) };
     SheetInput { style, sheet, vl, memory }
 }
 
 type Made = (Vec<Numbers>, u64, usize);
 
 fn draft(random: &mut Random, change: impl Fn(&mut Random, &mut Draft)) -> Made {
-    let mut draft = Draft::new(random);
+    let mut draft = if random.one_in(8) { sums::draft(random) } else { Draft::new(random) };
     change(random, &mut draft);
     (draft.operations(random), draft.vl, draft.memory.clamp(0, 65_536) as usize)
 }

@@ -8,12 +8,16 @@
 //! - `notes`        the events of a calculation
 //! - `report`       what a sheet came to, in the form of the engine's report
 //! - `nest`         loop nests: the translation, and the plain loop
+//! - `mark`         the sheets of a mark's centroid, and the plain loops that they are held to
+//! - `hex`          commented hexadecimal text
 //! - `random`       a seeded source of numbers
 //! - `generate`     sheets and nests: valid, near-valid, damaged, extreme
 
 pub mod calculation;
 pub mod clauses;
 pub mod generate;
+pub mod hex;
+pub mod mark;
 pub mod model;
 pub mod nest;
 mod notes;

@@ -14,6 +14,7 @@ use std::time::Instant;
 use compare::Tally;
 use tests::clauses::{Clause, Event, Hits};
 use tests::generate::{self, fixed, nests, Style};
+use tests::mark::{self, Job};
 use tests::random::Random;
 
 struct Options {
@@ -90,6 +91,18 @@ impl Check {
         sheets.len() + nests.len()
     }
 
+    /// The sheets of the mark's centroid at every vector length, on some images.
+    fn marks(&mut self) -> usize {
+        let runs: Vec<(&Job, u64)> = mark::JOBS.iter().flat_map(|job| mark::VECTOR_LENGTHS.map(|vl| (job, vl))).collect();
+        for &(job, vl) in &runs {
+            if let Err(difference) = compare::mark(job, vl) {
+                self.differences += 1;
+                println!("DIFFERS: examples/{}.hex at vector length {vl}: {difference}", job.name);
+            }
+        }
+        runs.len() * mark::images().len()
+    }
+
     fn sheet(&mut self, number: u64) {
         let seed = self.options.seed;
         let input = generate::sheet(seed, number);
@@ -130,9 +143,9 @@ impl Check {
         }
     }
 
-    fn print(&self, kept: usize, fixed: usize, seconds: f64) {
+    fn print(&self, [kept, fixed, marks]: [usize; 3], seconds: f64) {
         let tally = &self.tally;
-        println!("kept inputs: {kept}, fixed inputs: {fixed}");
+        println!("kept inputs: {kept}, fixed inputs: {fixed}, sums of images held to plain loops: {marks}");
         println!("sheets: {}, {} of all runs refused", tally.sheets, tally.refused);
         for style in Style::ALL {
             println!("    {style:?}: {}", self.styles[style as usize]);
@@ -196,8 +209,9 @@ fn checked() -> Result<bool, String> {
     }
     let kept = check.kept()?;
     let fixed = check.fixed();
+    let marks = check.marks();
     check.all();
-    check.print(kept, fixed, began.elapsed().as_secs_f64());
+    check.print([kept, fixed, marks], began.elapsed().as_secs_f64());
     let never = never_reached(&check.tally.hits);
     for line in &never {
         println!("{line}");

@@ -1,6 +1,6 @@
 //! Document 01's engine with the requests of document 02 that have landed, written from their text alone, to be compared with the proved one.
 
-use crate::calculation::{Calculation, Fault, Outside};
+use crate::calculation::{has_one_source, Calculation, Fault, Outside};
 use crate::clauses::{Clause, Event, Seen};
 use crate::numbers;
 use crate::stream::{Dimension, Kind, Modifier, Parameter, Stream};
@@ -340,12 +340,18 @@ fn being_configured(register: &Register, [plain, open, finished]: [Clause; 3]) -
 
 fn calculation(reader: &mut Reader) -> Result<Calculation, Clause> {
     let place = reader.place;
-    let operation = reader.upto(7, Clause::CalculationOperation)?;
+    let operation = reader.upto(11, Clause::CalculationOperation)?;
     let destination = reader.register(Clause::CalculationDestination)?;
     let first = reader.register(Clause::CalculationFirst)?;
     let second = reader.register(Clause::CalculationSecond)?;
-    if operation == 0 && second != first {
-        return Err(Clause::CopyDiffers);
+    if has_one_source(operation) && second != first {
+        return Err(match operation {
+            0 => Clause::CopyDiffers,
+            8 => Clause::SumDiffers,
+            9 => Clause::SmallestDiffers,
+            10 => Clause::LargestDiffers,
+            _ => Clause::FirstLargestDiffers,
+        });
     }
     Ok(Calculation { place, operation, destination, first, second })
 }

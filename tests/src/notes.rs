@@ -1,13 +1,15 @@
 //! Events of calculations, for the counts. Nothing here changes what the model answers.
 
-use crate::calculation::Calculation;
-use crate::clauses::Event;
+use crate::calculation::{folds, has_one_source, signed, taken, Calculation};
+use crate::clauses::{Clause, Event};
 use crate::model::{Machine, State};
 use crate::stream::{Element, Kind, Parameter, Stream};
 
 impl Machine<'_> {
-    /// A calculation of `n` lanes is about to move, and to write at these addresses.
-    pub fn note_sources(&mut self, c: &Calculation, n: usize, written: &[i64]) {
+    /// A calculation whose first source has these lanes is about to move, and to write at these addresses.
+    pub fn note_sources(&mut self, c: &Calculation, lanes: &[u64], written: &[i64]) {
+        let n = lanes.len();
+        let taken = taken(c.operation, n);
         let open = |register: usize| self.registers[register].state == State::Open;
         let (first, second, destination) = (open(c.first), open(c.second), open(c.destination));
         let width = self.registers[c.first].width as i64;
@@ -15,30 +17,104 @@ impl Machine<'_> {
         let meets = |register: usize| written.iter().any(|at| chunk(register).iter().any(|read| (read.address - at).abs() < width));
         let overlaps = destination && (first && meets(c.first) || second && meets(c.second));
         let twice = written.windows(2).any(|pair| (pair[0] - pair[1]).abs() < width);
-        let part = destination && n < chunk(c.destination).len();
+        let part = destination && taken < chunk(c.destination).len();
         let outside = |element: &Element| !self.is_inside(element.address, width as usize);
-        let outside_behind = part && chunk(c.destination)[n..].iter().any(outside);
+        let outside_behind = part && chunk(c.destination)[taken..].iter().any(outside);
 
         let seen = &mut self.seen;
         seen.mark(OPERATIONS[c.operation as usize]);
         seen.mark_if(n > 0, WIDTHS[width.trailing_zeros() as usize]);
-        seen.mark_if(first && c.first == c.second && c.operation != 0, Event::ReadTwiceNamed);
+        seen.mark_if(first && c.first == c.second && !has_one_source(c.operation), Event::ReadTwiceNamed);
         seen.mark_if(first && second && c.first != c.second, Event::ReadTwoStreams);
         seen.mark_if(!(first && second) && n > 0, Event::SourcePlain);
         seen.mark_if(!(first && second) && n == 0, Event::SourceNone);
         seen.mark_if(!destination && n > 0 && (c.destination == c.first || c.destination == c.second), Event::DestinationIsSource);
         seen.mark_if(destination && !part, Event::StoreWhole);
-        seen.mark_if(part && n > 0, Event::StorePart);
-        seen.mark_if(part && n == 0, Event::StoreNone);
+        seen.mark_if(part && taken > 0, Event::StorePart);
+        seen.mark_if(part && taken == 0, Event::StoreNone);
         seen.mark_if(overlaps, Event::StoreOverlaps);
         seen.mark_if(twice, Event::StoreTwice);
-        seen.mark_if(outside_behind && n > 0, Event::StoreBehindOutside);
-        seen.mark_if(outside_behind && n == 0, Event::StoreNoneOutside);
+        seen.mark_if(outside_behind && taken > 0, Event::StoreBehindOutside);
+        seen.mark_if(outside_behind && taken == 0, Event::StoreNoneOutside);
+        if folds(c.operation) {
+            seen.mark_if(outside_behind, Event::FoldBehindOutside);
+            self.note_fold(c, lanes);
+            self.note_folded(c.operation, width as usize, lanes);
+        }
     }
 
-    /// A calculation that would have written at these addresses is about to be refused with 14.
-    pub fn note_outside(&mut self, c: &Calculation, written: &[i64]) {
+    /// One of 8 to 11 is about to move: what it reads and where the single lane goes.
+    fn note_fold(&mut self, c: &Calculation, lanes: &[u64]) {
+        let n = lanes.len();
+        let (source, destination) = (&self.registers[c.first], &self.registers[c.destination]);
+        let (open, stores) = (source.state == State::Open, destination.state == State::Open);
+        let cut = open && n < self.vl / source.width;
+        let ends = open && source.stream().elements.len() == source.stream().moved + n;
+        let onto_lanes = !stores && c.destination != c.first && destination.valid > 1;
+        let code = source.width.trailing_zeros() as usize;
+
+        let seen = &mut self.seen;
+        seen.mark_if(n > 0, FOLD_WIDTHS[code]);
+        seen.mark_if(n == 1, Event::FoldOneLane);
+        seen.mark_if(open && !cut, Event::FoldChunk);
+        seen.mark_if(cut && ends, Event::FoldAtEnd);
+        seen.mark_if(cut && !ends, Event::FoldCoupled);
+        seen.mark_if(!open && n > 1, Event::FoldPlain);
+        seen.mark_if(!open && n > 1 && c.destination == c.first, Event::FoldInPlace);
+        seen.mark_if(onto_lanes, Event::FoldOntoLanes);
+        seen.mark_if(stores, Event::FoldStored);
+        seen.mark_if(n == 0, Event::SumNone);
+        seen.mark_if(n == 0 && stores, Event::SumNoneStored);
+    }
+
+    /// One of 8 to 11 over these lanes: what makes its answer hard to get right.
+    fn note_folded(&mut self, operation: u64, width: usize, lanes: &[u64]) {
+        let values: Vec<i128> = lanes.iter().map(|&lane| signed(lane, width)).collect();
+        let (Some(least), Some(most)) = (values.iter().min(), values.iter().max()) else {
+            return;
+        };
+        let at = |value: &i128| values.iter().position(|other| other == value);
+        let unsigned_least = (0..lanes.len()).min_by_key(|&lane| lanes[lane]);
+        let unsigned_most = (0..lanes.len()).rev().max_by_key(|&lane| lanes[lane]);
+        let sum: u128 = lanes.iter().map(|&lane| u128::from(lane)).sum();
+
+        let seen = &mut self.seen;
+        match operation {
+            8 => seen.mark_if(sum >> (8 * width) > 0, Event::SumWraps),
+            9 => seen.mark_if(at(least) != unsigned_least, Event::SmallestBySign),
+            10 => {
+                seen.mark_if(at(most) != unsigned_most, Event::LargestBySign);
+                seen.mark_if(lanes.len() > 1 && *most < 0, Event::LargestNegative);
+            }
+            _ => {
+                let equal = values.iter().filter(|value| *value == most).count();
+                seen.mark_if(at(most) != unsigned_most, Event::FirstLargestBySign);
+                seen.mark_if(equal > 1, Event::FirstLargestTie);
+                seen.mark_if(lanes.len() > 1 && at(most) == Some(lanes.len() - 1), Event::FirstLargestLast);
+            }
+        }
+    }
+
+    /// A calculation is about to be refused by a clause.
+    pub fn note_refused(&mut self, c: &Calculation, clause: Clause) {
+        let source = &self.registers[c.first];
+        let no_lanes = c.operation > 8 && source.state == State::Plain && source.valid == 0;
+        match clause.number() {
+            14 => self.note_outside(c),
+            5 | 10 | 11 => self.seen.mark_if(no_lanes, Event::NoLanesUnusable),
+            12 => self.seen.mark_if(no_lanes, Event::NoLanesWidth),
+            18 => {
+                let outside = self.written(c).iter().any(|&address| !self.is_inside(address, source.width));
+                self.seen.mark_if(outside, Event::NoLanesOutside);
+            }
+            _ => {}
+        }
+    }
+
+    /// A calculation is about to be refused with 14.
+    fn note_outside(&mut self, c: &Calculation) {
         let width = self.registers[c.first].width;
+        let written = &self.written(c);
         let inside = |addresses: &[i64]| addresses.iter().map(|&address| self.is_inside(address, width)).collect::<Vec<bool>>();
         let operands = [inside(&self.addresses(c.first)), inside(&self.addresses(c.second)), inside(written)];
         let lane = |operand: &Vec<bool>| operand.iter().position(|inside| !inside);
@@ -48,10 +124,15 @@ impl Machine<'_> {
         let below = |one: Option<usize>, other: Option<usize>| one.is_some_and(|one| other.is_some_and(|other| one < other));
 
         let seen = &mut self.seen;
-        seen.mark_if(first.is_some() && c.first == c.second && c.operation != 0, Event::TwiceOutside);
+        seen.mark_if(first.is_some() && c.first == c.second && !has_one_source(c.operation), Event::TwiceOutside);
         seen.mark_if(below(second, first), Event::BothOutside);
         seen.mark_if(below(store, source), Event::SourceAndStoreOutside);
         seen.mark_if(again == Some(true), Event::InsideAgain);
+        if folds(c.operation) {
+            seen.mark_if(first.is_some(), Event::FoldSourceOutside);
+            seen.mark_if(first.is_none(), Event::FoldStoreOutside);
+            seen.mark_if(first.is_some() && store.is_some(), Event::FoldBothOutside);
+        }
     }
 
     /// An open stream is about to move on by some elements of its next chunk.
@@ -90,7 +171,7 @@ impl Machine<'_> {
     }
 }
 
-const OPERATIONS: [Event; 8] = [
+const OPERATIONS: [Event; 12] = [
     Event::CopyDone,
     Event::AddDone,
     Event::SubtractDone,
@@ -99,9 +180,15 @@ const OPERATIONS: [Event; 8] = [
     Event::XorDone,
     Event::SmallerDone,
     Event::LargerDone,
+    Event::SumDone,
+    Event::SmallestDone,
+    Event::LargestDone,
+    Event::FirstLargestDone,
 ];
 
 const WIDTHS: [Event; 4] = [Event::Width1, Event::Width2, Event::Width4, Event::Width8];
+
+const FOLD_WIDTHS: [Event; 4] = [Event::FoldWidth1, Event::FoldWidth2, Event::FoldWidth4, Event::FoldWidth8];
 
 /// Whether the pass of some dimension ends at `last` although its index could still grow: what is left of the pass is empty.
 fn skips_empty(stream: &Stream, last: &Element, next: Option<&Element>) -> bool {

@@ -11,8 +11,9 @@ use std::path::{Path, PathBuf};
 use std::process::{Command, ExitCode, Stdio};
 
 use tests::calculation::{Outside, Role};
+use tests::hex::bytes_of;
 use tests::report::report;
-use tests::{model, nest};
+use tests::{mark, model, nest};
 
 /// What a program wrote to standard output and to standard error.
 struct Written {
@@ -68,11 +69,11 @@ fn example_text(name: &str) -> Result<String, String> {
     fs::read_to_string(&path).map_err(|error| format!("{path}: {error}"))
 }
 
-/// The bytes of commented hexadecimal text.
-fn bytes_of(text: &str) -> Vec<u8> {
-    let digits: String = text.lines().map(|line| line.split('#').next().unwrap_or("")).collect::<String>().split_whitespace().collect();
-    let pairs = digits.as_bytes().chunks(2);
-    pairs.map(|pair| u8::from_str_radix(std::str::from_utf8(pair).expect("ASCII"), 16).expect("hexadecimal digits")).collect()
+/// The vector length of an example's run: its comment ends with that command.
+fn vector_length(name: &str, text: &str) -> Result<u64, String> {
+    let command = text.lines().filter_map(|line| line.split("target/bin/run ").nth(1)).last();
+    let word = command.and_then(|command| command.split(' ').next());
+    word.and_then(|word| word.parse().ok()).ok_or_else(|| format!("{name}: no vector length"))
 }
 
 fn plural(n: u64, one: &str, more: &str) -> String {
@@ -202,26 +203,58 @@ impl Tried {
         Ok(())
     }
 
-    /// The examples of the repository. Each names in its comment the vector length of its run.
+    /// The examples of the repository that run on its image.
     fn examples(&mut self) -> Result<(), String> {
         let image = bytes_of(&example_text("image")?);
         for name in ["first", "triangle", "coupled-triangle", "ragged-rows", "saxpy", "named-twice", "smoothing"] {
             let text = example_text(name)?;
-            let command =
-                text.lines().find_map(|line| line.split("target/bin/run ").nth(1)).ok_or_else(|| format!("{name}: no command"))?;
-            let vl = command.split(' ').next().and_then(|word| word.parse().ok()).ok_or_else(|| format!("{name}: no vector length"))?;
             let mut sheet = bytes_of(&text);
             if name == "smoothing" {
                 self.translate(&sheet)?;
                 sheet = nest::read(&sheet).map_err(|_| "smoothing: refused")?.sheet();
             }
-            self.example(name, &text, &sheet, vl, &image)?;
+            self.example(name, &text, &sheet, vector_length(name, &text)?, &image)?;
         }
         for (document, name, vl) in [("docs/USING.md", "first", 16), ("examples/README.md", "named-twice", 8)] {
             self.told(document, "target/bin/listing sheet", &format!("{name}.listing"))?;
             self.told(document, &format!("target/bin/run {vl} sheet image after"), &format!("{name}.run"))?;
         }
         self.told("docs/USING.md", "./run-c sheet image", "first.run-c")
+    }
+
+    /// The examples that run on the mark: at the vector length that they name, then at every one, with the memory held to the plain loop.
+    fn marks(&mut self) -> Result<(), String> {
+        let image = mark::mark();
+        for job in &mark::JOBS {
+            let text = example_text(job.name)?;
+            self.example(job.name, &text, &job.sheet(), vector_length(job.name, &text)?, &job.memory(&image))?;
+            for vl in mark::VECTOR_LENGTHS {
+                fs::remove_file(self.path("after")).map_err(|error| format!("after: {error}"))?;
+                let written = self.run("run", &[&vl.to_string(), "sheet", "image", "after"], b"")?;
+                let after = fs::read(self.path("after")).map_err(|error| format!("after: {error}"))?;
+                let held = job.held(&image, &after).err().unwrap_or_default();
+                self.same(&format!("{} at vector length {vl}: memory", job.name), held.as_bytes(), b"");
+                let first = written.out.split(|&byte| byte == b'\n').next().unwrap_or(b"");
+                self.same(&format!("{} at vector length {vl}: first line", job.name), first, b"done");
+            }
+        }
+        self.told("docs/USING.md", "target/bin/run 16 sheet mark words", "widen.run")?;
+        self.told("docs/USING.md", "target/bin/listing sheet", "total.listing")?;
+        self.told("docs/USING.md", "target/bin/run 16 sheet words after", "total.run")
+    }
+
+    /// Each of 8 to 11 in words; and smallest of a register that has no lanes.
+    fn folds(&mut self) -> Result<(), String> {
+        let image = bytes_of(&example_text("image")?);
+        let sheet = bytes_of(
+            "01 8B 81 01 00  02 01 00 04 02  04 01  05 01 05
+            00 02 01 01  08 04 02 02  09 05 02 02  0A 06 02 02  0B 07 02 02",
+        );
+        self.ran("folds", &sheet, 8, &image)?;
+        self.expect_file("listing", &["sheet"], b"", "folds.listing")?;
+        let none = bytes_of("01 8B 81 01 00  02 01 00 04 02  04 01  05 01 02  00 02 01 01  09 05 03 03");
+        self.ran("no-lanes", &none, 8, &image)?;
+        Ok(())
     }
 
     /// Runs that are refused with 14, for each operand: document 01's words in 39 bytes, a second source that runs down below 0, the
@@ -326,6 +359,8 @@ impl Tried {
     fn all(&mut self) -> Result<(), String> {
         self.translations()?;
         self.examples()?;
+        self.marks()?;
+        self.folds()?;
         self.outside()?;
         self.refused_sheets()?;
         self.many_streams()?;

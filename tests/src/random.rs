@@ -63,4 +63,10 @@ impl Random {
         bytes.truncate(length);
         bytes
     }
+
+    /// Bytes of few values, so that many lanes are equal.
+    pub fn few_bytes(&mut self, length: usize) -> Vec<u8> {
+        let values = [0; 3].map(|_| self.pick(&[0x00, 0x01, 0x7f, 0x80, 0xff]));
+        (0..length).map(|_| self.pick(&values)).collect()
+    }
 }

@@ -7,11 +7,11 @@ use denote.Enum.Declared.{tagOf}
 use Rattle.codec.specs.Refusals.{laneOf, operandOf}
 use Rattle.codec.proofs.refusal.Refusal.{the-type}
 use Rattle.codec.specs.declared.refusal.Refusal.{Refusal}
-use Rattle.codec.specs.declared.refusal.Refusal.the-variants.{BadNumber, OutOfRange, FixedBits, NotCarried, WrongState, TooMany, Misplaced, LowHigh, Product, WrongKind, StreamEnded, Widths, LaneCounts, Outside, Lengths, LoopRegister, NoRoom}
+use Rattle.codec.specs.declared.refusal.Refusal.the-variants.{BadNumber, OutOfRange, FixedBits, NotCarried, WrongState, TooMany, Misplaced, LowHigh, Product, WrongKind, StreamEnded, Widths, LaneCounts, Outside, Lengths, LoopRegister, NoRoom, NoLanes}
 
 -- the places of the others in the enum
 abbrev others : List ℕ
-others = 0 ∷ 1 ∷ 2 ∷ 3 ∷ 4 ∷ 5 ∷ 6 ∷ 7 ∷ 8 ∷ 9 ∷ 10 ∷ 11 ∷ 12 ∷ 14 ∷ 15 ∷ 16 ∷ []
+others = 0 ∷ 1 ∷ 2 ∷ 3 ∷ 4 ∷ 5 ∷ 6 ∷ 7 ∷ 8 ∷ 9 ∷ 10 ∷ 11 ∷ 12 ∷ 14 ∷ 15 ∷ 16 ∷ 17 ∷ []
 
 pub neither : (x : Refusal) → OneOf others (tagOf the-type x) → (laneOf x ≡ 0) × (operandOf x ≡ 0)
 neither BadNumber e = (refl, refl)
@@ -31,3 +31,4 @@ neither (Outside lane role) e = absurd (miss others 13 tt e)
 neither Lengths e = (refl, refl)
 neither LoopRegister e = (refl, refl)
 neither NoRoom e = (refl, refl)
+neither NoLanes e = (refl, refl)

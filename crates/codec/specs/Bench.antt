@@ -9,7 +9,7 @@ use Prim.Native.Nat.{ℕ, zero, suc}
 use mathlib.Core.Path.{_≡_, refl}
 use mathlib.Core.List.{List, [], _∷_, map}
 use mathlib.Core.Bool.{cond}
-use lib.ListN.{length}
+use lib.ListN.{length, replicate}
 use lib.Dec.{leb}
 use lib.IntN.{pos, negsuc}
 use Rattle.codec.specs.Refusals.{numberOf, laneOf, operandOf}
@@ -27,6 +27,8 @@ use Rattle.codec.specs.declared.operation.Operation.the-variants as op
 use Rattle.codec.specs.declared.operation.Parameter.the-variants as parameter
 use Rattle.codec.specs.declared.operation.Behaviour.the-variants as behaviour
 use Rattle.codec.specs.declared.operation.Action.the-variants as action
+use Rattle.codec.specs.declared.operation.Fold.the-variants as fold
+use Rattle.codec.specs.declared.operation.Task.the-variants as task
 use Rattle.codec.specs.declared.operation.Calculation.{Calculation}
 use Rattle.codec.specs.declared.operation.Decoded.{Decoded}
 use Rattle.codec.specs.declared.operation.Decoded.the-variants as decoded
@@ -34,7 +36,7 @@ use Rattle.codec.specs.declared.operation.Body.{Body}
 use Rattle.codec.specs.declared.operation.Body.the-variants as body
 use Rattle.codec.specs.declared.refusal.Role.the-variants as role
 use Rattle.codec.specs.declared.refusal.Refusal.{Refusal}
-use Rattle.codec.specs.declared.refusal.Refusal.the-variants.{BadNumber, OutOfRange, FixedBits, NotCarried, WrongState, TooMany, Misplaced, LowHigh, Product, WrongKind, StreamEnded, Widths, LaneCounts, Outside, Lengths, LoopRegister, NoRoom}
+use Rattle.codec.specs.declared.refusal.Refusal.the-variants.{BadNumber, OutOfRange, FixedBits, NotCarried, WrongState, TooMany, Misplaced, LowHigh, Product, WrongKind, StreamEnded, Widths, LaneCounts, Outside, Lengths, LoopRegister, NoRoom, NoLanes}
 
 -- "127 is 7F, 128 is 80 01, 300 is AC 02", read and written; 2^32 - 1 takes five groups
 pub numbers :
@@ -83,12 +85,13 @@ unfolding headerOf headerSaid
 words = (refl, refl, refl, refl, refl, refl, refl, refl)
 
 -- the table of "Refusal numbers"; "000 to 011 store B, H, W, D; 100 to 111 load", "1, 2, 4 or 8 bytes"; "parameter (0 size, 1 offset, 2
--- stride), behaviour (0 add, 1 subtract)"; "0 copy .., 1 add, 2 subtract, 3 and, 4 or, 5 xor, 6 signed smaller, 7 signed larger"
+-- stride), behaviour (0 add, 1 subtract)"; "0 copy .., 1 add, 2 subtract, 3 and, 4 or, 5 xor, 6 signed smaller, 7 signed larger"; 02, 2/14: "18";
+-- "calculations 8 to 11"; "The second source must equal the first"; no calculation has a code above 11
 pub codes :
     (map numberOf
     (BadNumber ∷ OutOfRange ∷ FixedBits ∷ NotCarried ∷ WrongState ∷ TooMany ∷ Misplaced ∷ LowHigh ∷ Product ∷ WrongKind ∷ StreamEnded ∷ Widths
-    ∷ LaneCounts ∷ Outside 5 role.Second ∷ Lengths ∷ LoopRegister ∷ NoRoom ∷ [])
-    ≡ 1 ∷ 2 ∷ 3 ∷ 4 ∷ 5 ∷ 6 ∷ 7 ∷ 8 ∷ 9 ∷ 10 ∷ 11 ∷ 12 ∷ 13 ∷ 14 ∷ 15 ∷ 16 ∷ 17 ∷ [])
+    ∷ LaneCounts ∷ Outside 5 role.Second ∷ Lengths ∷ LoopRegister ∷ NoRoom ∷ NoLanes ∷ [])
+    ≡ 1 ∷ 2 ∷ 3 ∷ 4 ∷ 5 ∷ 6 ∷ 7 ∷ 8 ∷ 9 ∷ 10 ∷ 11 ∷ 12 ∷ 13 ∷ 14 ∷ 15 ∷ 16 ∷ 17 ∷ 18 ∷ [])
     × (map (λ r. numberOf (Outside 5 r)) (role.First ∷ role.Second ∷ role.Destination ∷ []) ≡ 14 ∷ 14 ∷ 14 ∷ [])
     × (map (λ r. laneOf (Outside 5 r)) (role.First ∷ role.Second ∷ role.Destination ∷ []) ≡ 5 ∷ 5 ∷ 5 ∷ [])
     × (map (λ r. operandOf (Outside 5 r)) (role.First ∷ role.Second ∷ role.Destination ∷ []) ≡ 0 ∷ 1 ∷ 2 ∷ [])
@@ -114,10 +117,15 @@ pub codes :
     (record { at = 6 }))
     (behaviour.Add ∷ behaviour.Subtract ∷ []))
     × (map (λ k. calculationAt (k ∷ 3 ∷ 1 ∷ 1 ∷ []) 0) (0 ∷ 1 ∷ 2 ∷ 3 ∷ 4 ∷ 5 ∷ 6 ∷ 7 ∷ [])
-    ≡ map (λ a. body.Calculation (record { action = a; destination = 3; first = 1; second = 1 }) (record { at = 4 }))
+    ≡ map (λ a. body.Calculation (record { task = task.Each a; destination = 3; first = 1; second = 1 }) (record { at = 4 }))
     (action.Copy ∷ action.Add ∷ action.Subtract ∷ action.And ∷ action.Or ∷ action.Xor ∷ action.Smaller ∷ action.Larger ∷ []))
+    × (map (λ k. calculationAt (k ∷ 3 ∷ 1 ∷ 1 ∷ []) 0) (8 ∷ 9 ∷ 10 ∷ 11 ∷ [])
+    ≡ map (λ f. body.Calculation (record { task = task.All f; destination = 3; first = 1; second = 1 }) (record { at = 4 }))
+    (fold.Sum ∷ fold.Smallest ∷ fold.Largest ∷ fold.FirstLargest ∷ []))
+    × (map (λ k. calculationAt (k ∷ 3 ∷ 1 ∷ 2 ∷ []) 0) (0 ∷ 8 ∷ 9 ∷ 10 ∷ 11 ∷ 12 ∷ []) ≡ replicate 6 (body.Refused OutOfRange 0))
+    × (calculationAt (12 ∷ 3 ∷ 1 ∷ 1 ∷ []) 0 ≡ body.Refused OutOfRange 0)
 unfolding numberAt groupsAt signedOf headerSaid headerOf modifierAt operationAt calculationAt
-codes = (refl, refl, refl, refl, refl, refl, refl, refl, refl, refl, refl, refl)
+codes = (refl, refl, refl, refl, refl, refl, refl, refl, refl, refl, refl, refl, refl, refl, refl)
 
 -- what stands in a sheet, one after the other
 pub data Step : Type 0 where
@@ -166,7 +174,7 @@ pub sheet :
     ∷ operation (op.Dimension (record { register = 3; offset = record { 0 = pos 0 }; size = 3; stride = record { 0 = pos 1 } }))
     ∷ operation (op.End 3)
     ∷ operation (op.Run 1 1)
-    ∷ calculation (record { action = action.Add; destination = 3; first = 1; second = 2 })
+    ∷ calculation (record { task = task.Each action.Add; destination = 3; first = 1; second = 2 })
     ∷ []
 unfolding numberAt groupsAt signedOf headerSaid headerOf openAt dimensionAt endAt runAt operationAt calculationAt calculations from steps
 sheet = refl
@@ -185,12 +193,12 @@ pub refusedSheets :
     × (steps (5 ∷ 1 ∷ []) ≡ refused BadNumber 0 ∷ [])
     × (steps (5 ∷ 1 ∷ 2 ∷ 1 ∷ 3 ∷ 1 ∷ 2 ∷ 0 ∷ 3 ∷ 1 ∷ 2 ∷ [])
     ≡ operation (op.Run 1 2)
-    ∷ calculation (record { action = action.Add; destination = 3; first = 1; second = 2 })
+    ∷ calculation (record { task = task.Each action.Add; destination = 3; first = 1; second = 2 })
     ∷ refused OutOfRange 7
     ∷ [])
     × (steps (5 ∷ 1 ∷ 1 ∷ 0 ∷ 3 ∷ 1 ∷ 1 ∷ 4 ∷ [])
     ≡ operation (op.Run 1 1)
-    ∷ calculation (record { action = action.Copy; destination = 3; first = 1; second = 1 })
+    ∷ calculation (record { task = task.Each action.Copy; destination = 3; first = 1; second = 1 })
     ∷ refused OutOfRange 7
     ∷ [])
 unfolding numberAt groupsAt signedOf headerSaid headerOf openAt dimensionAt modifierAt endAt runAt operationAt calculationAt calculations from steps

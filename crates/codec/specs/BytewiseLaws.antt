@@ -20,9 +20,9 @@ use Rattle.codec.specs.NumberLaws.{areBytes, unsigned-range}
 use Rattle.codec.specs.Headers.{wordOf}
 use Rattle.codec.specs.TestLaws.{both}
 use Rattle.codec.specs.HeaderLaws.{free-none, word-below}
-use Rattle.codec.specs.Operations.{isBase, isReach, parameterCode, behaviourCode, actionCode, operationInRange, operationBytes, bytesOfAll, calculationBytes}
+use Rattle.codec.specs.Operations.{isBase, isReach, parameterCode, behaviourCode, taskCode, operationInRange, operationBytes, bytesOfAll, calculationBytes}
 use Rattle.codec.specs.RangeLaws.{dimension-range, modifier-range, run-range, open-range, reach-small}
-use Rattle.codec.specs.OperationLaws.{parameter-range, behaviour-range, action-range}
+use Rattle.codec.specs.OperationLaws.{parameter-range, behaviour-range, task-range}
 use Rattle.codec.specs.declared.operation.Calculation.{Calculation}
 use Rattle.codec.specs.declared.operation.Operation.{Operation}
 use Rattle.codec.specs.declared.operation.Operation.the-variants as op
@@ -102,9 +102,8 @@ operation-bytes (op.Run i n) e =
 pub calculation-bytes : (c : Calculation) → c .destination ≤ 31 → c .first ≤ 31 → c .second ≤ 31 → Bytewise (calculationBytes c)
 unfolding calculationBytes
 calculation-bytes c d f s =
-    let a = actionCode (c .action) in
-    let action = number-bytes a (omega (arith, leb-true a 7 (action-range (c .action)))) in
-    and-number (and-number (and-number action (c .destination) (omega arith)) (c .first) (omega arith)) (c .second) (omega arith)
+    let code = number-bytes (taskCode (c .task)) (omega (arith, task-range (c .task))) in
+    and-number (and-number (and-number code (c .destination) (omega arith)) (c .first) (omega arith)) (c .second) (omega arith)
 
 -- operations in two parts
 pub all-append : (os ps : List Operation) → bytesOfAll (os ++ ps) ≡ bytesOfAll os ++ bytesOfAll ps

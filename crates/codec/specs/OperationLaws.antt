@@ -3,10 +3,12 @@
 --   Decoding, Bodying                          what stands where an operation or a calculation was read
 --   parameter-range, behaviour-range, action-range   the codes of parameters, behaviours and actions
 --   action-back, action-there                  actions and their codes
+--   task-range, task-there                     what a calculation does, and its code
+--   task-before, second-before                 the codes up to 7 are read as they were
 --   operation-written, calculation-written     written then read
 --   operation-read, calculation-read           read then written
-use Prim.Native.Nat.{ℕ, zero, suc, _+_, _<_}
-use mathlib.Core.Path.{_≡_, refl, _∙_}
+use Prim.Native.Nat.{ℕ, zero, suc, _+_, _-_, _≤_, _<_}
+use mathlib.Core.Path.{_≡_, refl, sym, _∙_, ap}
 use mathlib.Core.List.{List, _++_, append-assoc}
 use mathlib.Core.Bool.{Bool, true, false, cond, not, _&&_, _||_}
 use native.Mathlib.Omega.{arith}
@@ -14,7 +16,7 @@ use lib.ListN.{length, length-append}
 use lib.Dec.{leb, eqb}
 use lib.IntN.{ℤ, pos, negsuc, natAbs}
 use lib.Signed.{nonNeg}
-use borrow.Author.Tests.{leb-true}
+use borrow.Author.Tests.{leb-true, leb-false, le-leb, le-ltb}
 use Rattle.codec.specs.declared.amounts.Bytes.{Bytes}
 use Rattle.codec.specs.declared.number.Cursor.{Cursor}
 use Rattle.codec.specs.declared.number.Number.{Number}
@@ -34,6 +36,10 @@ use Rattle.codec.specs.declared.operation.Operation.{Operation}
 use Rattle.codec.specs.declared.operation.Operation.the-variants as op
 use Rattle.codec.specs.declared.operation.Action.{Action}
 use Rattle.codec.specs.declared.operation.Action.the-variants as action
+use Rattle.codec.specs.declared.operation.Fold.{Fold}
+use Rattle.codec.specs.declared.operation.Fold.the-variants as fold
+use Rattle.codec.specs.declared.operation.Task.{Task}
+use Rattle.codec.specs.declared.operation.Task.the-variants as task
 use Rattle.codec.specs.declared.operation.Calculation.{Calculation}
 use Rattle.codec.specs.declared.operation.Decoded.the-variants as decoded
 use Rattle.codec.specs.declared.operation.Body.the-variants as body
@@ -42,10 +48,10 @@ use Rattle.codec.specs.declared.refusal.Refusal.the-variants.{BadNumber,
 use Rattle.codec.specs.Numbers.{numberAt, signedAt, numberBytes}
 use Rattle.codec.specs.NumberLaws.{areBytes, Stands, stands-join, number-below, number-written, number-read, number-some, signed-written, signed-read}
 use Rattle.codec.specs.Headers.{headerOf, headerInRange, wordOf, freeBits}
-use Rattle.codec.specs.TestLaws.{both, and-both}
+use Rattle.codec.specs.TestLaws.{both, and-both, or-none}
 use Rattle.codec.specs.RangeLaws.{reach-small}
 use Rattle.codec.specs.HeaderLaws.{isFree, free-none, free-bits, word-below, header-written, header-read}
-use Rattle.codec.specs.Operations.{field, signedField, anyNumber, upTo, isRegister, isBase, isSize, isReach, isDisplacement, isCount, parameterCoded, behaviourCoded, actionCoded, openOf, openAt, dimensionAt, modifierAt, endAt, runAt, operationNumbered, operationAt, isSecond, calculationAt, parameterCode, behaviourCode, actionCode, baseInRange, operationInRange, signedBytes, operationBytes, calculationInRange, calculationBytes}
+use Rattle.codec.specs.Operations.{field, signedField, anyNumber, upTo, isRegister, isBase, isSize, isReach, isDisplacement, isCount, parameterCoded, behaviourCoded, actionCoded, foldCoded, taskCoded, openOf, openAt, dimensionAt, modifierAt, endAt, runAt, operationNumbered, operationAt, hasOneSource, isSecond, calculationAt, parameterCode, behaviourCode, actionCode, foldCode, taskCode, baseInRange, operationInRange, signedBytes, operationBytes, calculationInRange, calculationBytes}
 
 -- ---- written, then read
 
@@ -111,6 +117,26 @@ action-back action.Or = refl
 action-back action.Xor = refl
 action-back action.Smaller = refl
 action-back action.Larger = refl
+
+-- the codes of folds are 8 to 11
+fold-range : (f : Fold) → (8 ≤ foldCode f) × (foldCode f ≤ 11)
+fold-range fold.Sum = omega arith
+fold-range fold.Smallest = omega arith
+fold-range fold.Largest = omega arith
+fold-range fold.FirstLargest = omega arith
+
+-- the codes of calculations are 0 to 11
+pub task-range : (t : Task) → taskCode t ≤ 11
+task-range (task.Each a) = omega (arith, leb-true (actionCode a) 7 (action-range a))
+task-range (task.All f) = fold-range f .1
+
+-- what a calculation does and its code
+task-back : (t : Task) → taskCoded (taskCode t) ≡ t
+task-back (task.Each a) = rw (action-range a, action-back a)
+task-back (task.All fold.Sum) = refl
+task-back (task.All fold.Smallest) = refl
+task-back (task.All fold.Largest) = refl
+task-back (task.All fold.FirstLargest) = refl
 
 -- three texts side by side in `s`: each stands behind those before it
 record Three (s pre post n0 n1 n2 : List ℕ) : Type 0 where
@@ -262,11 +288,11 @@ module _ (s pre post : List ℕ) where
       → calculationAt s (length pre) ≡ body.Calculation c (record { at = length (pre ++ calculationBytes c) })
   unfolding calculationBytes calculationAt
   calculation-written c r e =
-      let k = actionCode (c .action) in
-      let ra = action-range (c .action) in
+      let k = taskCode (c .task) in
+      let ra = le-leb k 11 (task-range (c .task)) in
       let r2 = both (isRegister (c .destination) && isRegister (c .first)) (isSecond k (c .first) (c .second)) r in
       let r1 = both (isRegister (c .destination)) (isRegister (c .first)) (r2 .0) in
-      let r3 = both (isRegister (c .second)) (not (eqb k 0) || eqb (c .second) (c .first)) (r2 .1) in
+      let r3 = both (isRegister (c .second)) (not (hasOneSource k) || eqb (c .second) (c .first)) (r2 .1) in
       let n0 = numberBytes k in
       let n1 = numberBytes (c .destination) in
       let n2 = numberBytes (c .first) in
@@ -277,7 +303,7 @@ module _ (s pre post : List ℕ) where
       let e3 : s ≡ (pre ++ n0 ++ n1 ++ n2) ++ (n3 ++ post) = e ∙ simp append-assoc in
       let g : pre ++ n0 ++ n1 ++ n2 ++ n3 ≡ pre ++ (n0 ++ n1 ++ n2 ++ n3) = simp append-assoc in
       rw (
-        read s pre _ k (most k 7 ra (omega arith)) e0,
+        read s pre _ k (most k 11 ra (omega arith)) e0,
         ra,
         read s (pre ++ n0) _ (c .destination) (most (c .destination) 31 (r1 .0) (omega arith)) e1,
         r1 .0,
@@ -285,7 +311,7 @@ module _ (s pre post : List ℕ) where
         r1 .1,
         read s (pre ++ n0 ++ n1 ++ n2) _ (c .second) (most (c .second) 31 (r3 .0) (omega arith)) e3,
         r2 .1,
-        action-back (c .action),
+        task-back (c .task),
         g,
       )
 
@@ -344,7 +370,7 @@ operation-some free (op.Run register count) = simp length-append (omega (arith, 
 -- a calculation has at least one byte
 calculation-some : (c : Calculation) → 0 < length (calculationBytes c)
 unfolding calculationBytes
-calculation-some c = simp length-append (omega (arith, number-some (actionCode (c .action))))
+calculation-some c = simp length-append (omega (arith, number-some (taskCode (c .task))))
 
 -- an operation in range whose bytes stand there
 standing : (s : List ℕ) (place to free : ℕ) (o : Operation) → isFree free → operationInRange o ≡ true → Stands s place (operationBytes free o) to → Decoding s place o to
@@ -376,6 +402,33 @@ action-there (suc (suc (suc (suc zero)))) e = refl
 action-there (suc (suc (suc (suc (suc zero))))) e = refl
 action-there (suc (suc (suc (suc (suc (suc zero)))))) e = refl
 action-there (suc (suc (suc (suc (suc (suc (suc n))))))) e = omega (arith, leb-true (suc (suc (suc (suc (suc (suc (suc n))))))) 7 e)
+
+-- a code from 8 to 11 is that of the fold that it stands for
+fold-there : (n : ℕ) → 8 ≤ n → n ≤ 11 → foldCode (foldCoded n) ≡ n
+fold-there n h k = go (n - 8) (omega arith)
+  where
+    go : (i : ℕ) → i + 8 ≡ n → foldCode (foldCoded n) ≡ n
+    go zero e = rw (sym e)
+    go (suc zero) e = rw (sym e)
+    go (suc (suc zero)) e = rw (sym e)
+    go (suc (suc (suc zero))) e = rw (sym e)
+    go (suc (suc (suc (suc i)))) e = absurd (omega arith)
+
+-- a code from 0 to 11 is that of what it stands for
+pub task-there : (n : ℕ) → leb n 11 ≡ true → taskCode (taskCoded n) ≡ n
+task-there n e = go (leb n 7) refl
+  where
+    go : (b : Bool) → leb n 7 ≡ b → taskCode (taskCoded n) ≡ n
+    go true f = rw f (action-there n f)
+    go false f = rw f (fold-there n (omega (arith, leb-false n 7 f)) (omega (arith, leb-true n 11 e)))
+
+-- 02, 2/14 leaves the codes up to 7 as they were: what they stand for
+pub task-before : (n : ℕ) → n ≤ 7 → taskCoded n ≡ task.Each (actionCoded n)
+task-before n h = rw (le-leb n 7 h)
+
+-- and which second source they take
+pub second-before : (n first v : ℕ) → n ≤ 7 → isSecond n first v ≡ (isRegister v && (not (eqb n 0) || eqb v first))
+second-before n first v h = ap (λ b. isRegister v && (not b || eqb v first)) (ap (λ b. eqb n 0 || b) (le-ltb 7 n h) ∙ or-none (eqb n 0))
 
 -- a header word that was not refused
 opened-good : (w : Word) (place base to : ℕ) (o : Operation) (c : Cursor) → openOf (λ x. decoded.Refused x place) w base to ≡ decoded.Operation o c
@@ -513,16 +566,16 @@ same-body : (s : List ℕ) (place : ℕ) (a b : Calculation) (d c : Cursor) → 
 same-body s place a b d c e k = let x : a ≡ b = cc in let y : d ≡ c = cc in rw (x, y) at k
 
 -- a calculation whose numbers stand side by side
-calculation-stands : (s : List ℕ) (at a1 a2 a3 a4 k d f n : ℕ) → upTo 7 k ≡ true → isRegister d ≡ true → isRegister f ≡ true → isSecond k f n ≡ true
+calculation-stands : (s : List ℕ) (at a1 a2 a3 a4 k d f n : ℕ) → upTo 11 k ≡ true → isRegister d ≡ true → isRegister f ≡ true → isSecond k f n ≡ true
     → Stands s at (numberBytes k) a1 → Stands s a1 (numberBytes d) a2 → Stands s a2 (numberBytes f) a3 → Stands s a3 (numberBytes n) a4
     → (o : Calculation) (c : Cursor)
-    → body.Calculation (record { action = actionCoded k; destination = d; first = f; second = n }) (record { at = a4 }) ≡ body.Calculation o c
+    → body.Calculation (record { task = taskCoded k; destination = d; first = f; second = n }) (record { at = a4 }) ≡ body.Calculation o c
     → Bodying s at o (c .at)
 unfolding calculationBytes
 calculation-stands s at a1 a2 a3 a4 k d f n hk hd hf hn k1 k2 k3 k4 o c e =
-    let b : Calculation = record { action = actionCoded k; destination = d; first = f; second = n } in
-    let j1 : Stands s at (numberBytes (actionCode (actionCoded k))) a1 = rw (action-there k hk) k1 in
-    let r : isSecond (actionCode (actionCoded k)) f n ≡ true = rw (action-there k hk) hn in
+    let b : Calculation = record { task = taskCoded k; destination = d; first = f; second = n } in
+    let j1 : Stands s at (numberBytes (taskCode (taskCoded k))) a1 = rw (task-there k hk) k1 in
+    let r : isSecond (taskCode (taskCoded k)) f n ≡ true = rw (task-there k hk) hn in
     let j : Stands s at (calculationBytes b) a4 = stands-join (stands-join (stands-join j1 k2) k3) k4 in
     same-body s at b o (record { at = a4 }) c e
     (record { range = and-both _ _ (and-both _ _ hd hf) r; stands = j; on = omega (arith, j .behind, calculation-some b) })
@@ -531,7 +584,7 @@ calculation-stands s at a1 a2 a3 a4 k d f n hk hd hf hn k1 k2 k3 k4 o c e =
 pub calculation-read : (s : List ℕ) (at : ℕ) (b : Calculation) (c : Cursor) → areBytes s → calculationAt s at ≡ body.Calculation b c → Bodying s at b (c .at)
 unfolding calculationAt
 calculation-read s at b c p e =
-    let f1 = good _ (numberAt s at) (upTo 7) _ _ (not-refused-body at b c) e in
+    let f1 = good _ (numberAt s at) (upTo 11) _ _ (not-refused-body at b c) e in
     let f2 = good _ (numberAt s (f1 .c .at)) isRegister _ _ (not-refused-body at b c) (f1 .went) in
     let f3 = good _ (numberAt s (f2 .c .at)) isRegister _ _ (not-refused-body at b c) (f2 .went) in
     let f4 = good _ (numberAt s (f3 .c .at)) (isSecond (f1 .v) (f3 .v)) _ _ (not-refused-body at b c) (f3 .went) in

@@ -8,7 +8,7 @@
 use Prim.Native.Nat.{ℕ, zero, suc, _+_}
 use mathlib.Core.List.{List, [], _∷_, _++_}
 use mathlib.Core.Bool.{Bool, true, cond, not, _&&_, _||_}
-use lib.Dec.{leb, eqb}
+use lib.Dec.{leb, eqb, ltb}
 use lib.IntN.{ℤ, pos, natAbs}
 use lib.Signed.{nonNeg}
 use Rattle.codec.specs.Numbers.{numberAt, signedAt, numberBytes, unsignedOf}
@@ -30,6 +30,10 @@ use Rattle.codec.specs.declared.operation.Operation.{Operation}
 use Rattle.codec.specs.declared.operation.Operation.the-variants as op
 use Rattle.codec.specs.declared.operation.Action.{Action}
 use Rattle.codec.specs.declared.operation.Action.the-variants as action
+use Rattle.codec.specs.declared.operation.Fold.{Fold}
+use Rattle.codec.specs.declared.operation.Fold.the-variants as fold
+use Rattle.codec.specs.declared.operation.Task.{Task}
+use Rattle.codec.specs.declared.operation.Task.the-variants as task
 use Rattle.codec.specs.declared.operation.Calculation.{Calculation}
 use Rattle.codec.specs.declared.operation.Decoded.{Decoded}
 use Rattle.codec.specs.declared.operation.Decoded.the-variants as decoded
@@ -102,6 +106,15 @@ actionCoded (suc (suc (suc (suc (suc zero))))) = action.Xor
 actionCoded (suc (suc (suc (suc (suc (suc zero)))))) = action.Smaller
 actionCoded (suc (suc (suc (suc (suc (suc (suc n))))))) = action.Larger
 
+-- 02, 2/14: "calculations 8 to 11 ..: sum modulo the width, signed smallest, signed largest, and the lane of the first largest": the fold
+-- of a code
+abbrev pub foldCoded : ℕ → Fold
+foldCoded n = cond (eqb n 8) fold.Sum (cond (eqb n 9) fold.Smallest (cond (eqb n 10) fold.Largest fold.FirstLargest))
+
+-- what a calculation of a code does: 01's calculations up to 7, lane by lane; 02's above, over all lanes
+abbrev pub taskCoded : ℕ → Task
+taskCoded n = cond (leb n 7) (task.Each (actionCoded n)) (task.All (foldCoded n))
+
 -- the open operation of a header word and a base, once both are read: a word is refused with 3, then 4
 abbrev pub openOf : (Refusal → Decoded) → Word → ℕ → ℕ → Decoded
 openOf refused (word.Refused x) base at = refused x
@@ -169,19 +182,23 @@ operationNumbered s refused (suc (suc (suc (suc (suc (suc n)))))) at = refused O
 unfoldable pub operationAt : List ℕ → ℕ → Decoded
 operationAt s at = field (λ x. decoded.Refused x at) (numberAt s at) anyNumber λ number next. operationNumbered s (λ x. decoded.Refused x at) number next
 
--- "0 copy (second source must equal the first, else 2)"
+-- "0 copy (second source must equal the first, else 2)"; 02, 2/14, of 8 to 11: "over all valid lanes of one source"
+abbrev pub hasOneSource : ℕ → Bool
+hasOneSource code = eqb code 0 || ltb 7 code
+
+-- a second source is a register; "second source must equal the first" where there is one source only
 abbrev pub isSecond : ℕ → ℕ → ℕ → Bool
-isSecond code first v = isRegister v && (not (eqb code 0) || eqb v first)
+isSecond code first v = isRegister v && (not (hasOneSource code) || eqb v first)
 
 -- "each: operation, destination, first source, second source"; the place of its refusals is its first byte
 unfoldable pub calculationAt : List ℕ → ℕ → Body
 calculationAt s place =
-    field (λ x. body.Refused x place) (numberAt s place) (upTo 7) λ code at.
+    field (λ x. body.Refused x place) (numberAt s place) (upTo 11) λ code at.
     field (λ x. body.Refused x place) (numberAt s at) isRegister λ destination at.
     field (λ x. body.Refused x place) (numberAt s at) isRegister λ first at.
     field (λ x. body.Refused x place) (numberAt s at) (isSecond code first) λ second at.
     body.Calculation
-    (record { action = actionCoded code; destination = destination; first = first; second = second })
+    (record { task = taskCoded code; destination = destination; first = first; second = second })
     (record { at = at })
 
 -- ---- writing
@@ -207,6 +224,19 @@ actionCode action.Or = 4
 actionCode action.Xor = 5
 actionCode action.Smaller = 6
 actionCode action.Larger = 7
+
+-- 02, 2/14: "calculations 8 to 11 ..: sum modulo the width, signed smallest, signed largest, and the lane of the first largest": the code
+-- of a fold
+abbrev pub foldCode : Fold → ℕ
+foldCode fold.Sum = 8
+foldCode fold.Smallest = 9
+foldCode fold.Largest = 10
+foldCode fold.FirstLargest = 11
+
+-- the code of what a calculation does
+abbrev pub taskCode : Task → ℕ
+taskCode (task.Each a) = actionCode a
+taskCode (task.All f) = foldCode f
 
 -- every field of a dimension is in its range
 abbrev pub dimensionInRange : Dimension → Bool
@@ -252,12 +282,12 @@ unfoldable pub bytesOfAll : List Operation → List ℕ
 bytesOfAll [] = []
 bytesOfAll (o ∷ os) = operationBytes 0 o ++ bytesOfAll os
 
--- every register of a calculation is in its range, and a copy's second source is its first
+-- every register of a calculation is in its range, and the second source is the first where there is one source only
 abbrev pub calculationInRange : Calculation → Bool
 calculationInRange c =
-    isRegister (c .destination) && isRegister (c .first) && isSecond (actionCode (c .action)) (c .first) (c .second)
+    isRegister (c .destination) && isRegister (c .first) && isSecond (taskCode (c .task)) (c .first) (c .second)
 
 -- "each: operation, destination, first source, second source": its numbers, one after the other
 unfoldable pub calculationBytes : Calculation → List ℕ
 calculationBytes c =
-    numberBytes (actionCode (c .action)) ++ numberBytes (c .destination) ++ numberBytes (c .first) ++ numberBytes (c .second)
+    numberBytes (taskCode (c .task)) ++ numberBytes (c .destination) ++ numberBytes (c .first) ++ numberBytes (c .second)

@@ -18,7 +18,7 @@ use Rattle.codec.specs.declared.operation.Dimension.{Dimension}
 use Rattle.codec.specs.declared.operation.Modifier.{Modifier}
 use Rattle.codec.specs.declared.operation.Calculation.{Calculation}
 use Rattle.codec.specs.declared.operation.Operation.the-variants as op
-use Rattle.codec.specs.Operations.{isRegister, isReach, isSize, isCount, isSecond, upTo, isDisplacement, actionCode, baseInRange, dimensionInRange, modifierInRange, operationInRange, calculationInRange}
+use Rattle.codec.specs.Operations.{isRegister, isReach, isSize, isCount, hasOneSource, isSecond, upTo, isDisplacement, taskCode, baseInRange, dimensionInRange, modifierInRange, operationInRange, calculationInRange}
 
 -- a dimension
 pub dimension-range : (d : Dimension) → dimensionInRange d ≡ true → (d .register ≤ 31) × (isReach (d .offset .0) ≡ true) × (d .size ≤ 4096) × (isReach (d .stride .0) ≡ true)
@@ -50,10 +50,10 @@ open-range h b e = both (headerInRange h) (baseInRange b) e
 -- a calculation
 pub calculation-range : (c : Calculation) → calculationInRange c ≡ true → (c .destination ≤ 31) × (c .first ≤ 31) × (c .second ≤ 31)
 calculation-range c e =
-    let k = actionCode (c .action) in
+    let k = taskCode (c .task) in
     let r2 = both (isRegister (c .destination) && isRegister (c .first)) (isSecond k (c .first) (c .second)) e in
     let r1 = both (isRegister (c .destination)) (isRegister (c .first)) (r2 .0) in
-    let r3 = both (isRegister (c .second)) (not (eqb k 0) || eqb (c .second) (c .first)) (r2 .1) in
+    let r3 = both (isRegister (c .second)) (not (hasOneSource k) || eqb (c .second) (c .first)) (r2 .1) in
     (leb-true _ _ (r1 .0), leb-true _ _ (r1 .1), leb-true _ _ (r3 .0))
 
 -- an offset or a stride

@@ -12,9 +12,9 @@ use Rattle.codec.specs.TestLaws.{never}
 use Rattle.codec.specs.declared.refusal.Role.{Role}
 use Rattle.codec.specs.declared.refusal.Role.the-variants as role
 use Rattle.codec.specs.declared.refusal.Refusal.{Refusal}
-use Rattle.codec.specs.declared.refusal.Refusal.the-variants.{BadNumber, OutOfRange, FixedBits, NotCarried, WrongState, TooMany, Misplaced, LowHigh, Product, WrongKind, StreamEnded, Widths, LaneCounts, Outside, Lengths, LoopRegister, NoRoom}
+use Rattle.codec.specs.declared.refusal.Refusal.the-variants.{BadNumber, OutOfRange, FixedBits, NotCarried, WrongState, TooMany, Misplaced, LowHigh, Product, WrongKind, StreamEnded, Widths, LaneCounts, Outside, Lengths, LoopRegister, NoRoom, NoLanes}
 
--- 01, "Refusal numbers": the table
+-- 01, "Refusal numbers": the table; 02, 2/14: "18, no lanes for smallest, largest or first largest"
 abbrev pub numberOf : Refusal → ℕ
 numberOf BadNumber = 1
 numberOf OutOfRange = 2
@@ -33,6 +33,7 @@ numberOf (Outside lane role) = 14
 numberOf Lengths = 15
 numberOf LoopRegister = 16
 numberOf NoRoom = 17
+numberOf NoLanes = 18
 
 -- 02, 1/14: "whether the first source, second source or destination was at fault": 0, 1, 2, in the order in which they are looked at
 abbrev pub roleNumber : Role → ℕ
@@ -59,6 +60,7 @@ laneOf (Outside lane role) = lane
 laneOf Lengths = 0
 laneOf LoopRegister = 0
 laneOf NoRoom = 0
+laneOf NoLanes = 0
 
 -- 02, 1/14: the operand at fault; only 14 carries it, any other has 0
 abbrev pub operandOf : Refusal → ℕ
@@ -79,6 +81,7 @@ operandOf (Outside lane role) = roleNumber role
 operandOf Lengths = 0
 operandOf LoopRegister = 0
 operandOf NoRoom = 0
+operandOf NoLanes = 0
 
 -- the operand that has a number, 0 to 2; any other number, which none has, gives the last
 abbrev pub rolled : ℕ → Role
@@ -92,7 +95,7 @@ one-role role.First = refl
 one-role role.Second = refl
 one-role role.Destination = refl
 
--- the refusal that has a number, 1 to 17, and of 14 that lane and operand; any other number, which no refusal has, gives the first or the
+-- the refusal that has a number, 1 to 18, and of 14 that lane and operand; any other number, which no refusal has, gives the first or the
 -- last
 abbrev pub numbered : ℕ → ℕ → ℕ → Refusal
 numbered zero lane operand = BadNumber
@@ -112,7 +115,8 @@ numbered (suc (suc (suc (suc (suc (suc (suc (suc (suc (suc (suc (suc (suc zero))
 numbered (suc (suc (suc (suc (suc (suc (suc (suc (suc (suc (suc (suc (suc (suc zero)))))))))))))) lane operand = Outside lane (rolled operand)
 numbered (suc (suc (suc (suc (suc (suc (suc (suc (suc (suc (suc (suc (suc (suc (suc zero))))))))))))))) lane operand = Lengths
 numbered (suc (suc (suc (suc (suc (suc (suc (suc (suc (suc (suc (suc (suc (suc (suc (suc zero)))))))))))))))) lane operand = LoopRegister
-numbered (suc (suc (suc (suc (suc (suc (suc (suc (suc (suc (suc (suc (suc (suc (suc (suc (suc n))))))))))))))))) lane operand = NoRoom
+numbered (suc (suc (suc (suc (suc (suc (suc (suc (suc (suc (suc (suc (suc (suc (suc (suc (suc zero))))))))))))))))) lane operand = NoRoom
+numbered (suc (suc (suc (suc (suc (suc (suc (suc (suc (suc (suc (suc (suc (suc (suc (suc (suc (suc n)))))))))))))))))) lane operand = NoLanes
 
 -- a refusal is the one that has its three numbers
 pub one-number : (x : Refusal) → numbered (numberOf x) (laneOf x) (operandOf x) ≡ x
@@ -133,6 +137,7 @@ one-number (Outside lane role) = ap (Outside lane) (one-role role)
 one-number Lengths = refl
 one-number LoopRegister = refl
 one-number NoRoom = refl
+one-number NoLanes = refl
 
 -- any but 14 is known by its own number
 pub is-numbered : (x : Refusal) (n : ℕ) → numberOf x ≡ n → eqb n 14 ≡ false → x ≡ numbered n 0 0
@@ -153,3 +158,4 @@ is-numbered (Outside lane role) n e f = never (sym f ∙ ap (λ k. eqb k 14) (sy
 is-numbered Lengths n e f = ap (λ k. numbered k 0 0) e
 is-numbered LoopRegister n e f = ap (λ k. numbered k 0 0) e
 is-numbered NoRoom n e f = ap (λ k. numbered k 0 0) e
+is-numbered NoLanes n e f = ap (λ k. numbered k 0 0) e

@@ -3,7 +3,7 @@
 --   never, never-true                  a test does not both hold and fail
 --   both, and-both                     what a `&&` that holds says, and the reverse
 --   and-false, and-left, and-right     one that fails
---   or-false, either, or-second        the same of a `||`
+--   or-false, either, or-second, or-none   the same of a `||`
 use Prim.Native.Nat.{ℕ}
 use mathlib.Core.Path.{_≡_, refl, sym, ap}
 use mathlib.Core.Bool.{Bool, true, false, cond, _&&_, _||_}
@@ -54,3 +54,8 @@ either false b e f = e
 pub or-second : (a b : Bool) → b ≡ true → (a || b) ≡ true
 or-second true b e = refl
 or-second false b e = e
+
+-- the first or nothing: the first
+pub or-none : (a : Bool) → (a || false) ≡ a
+or-none true = refl
+or-none false = refl

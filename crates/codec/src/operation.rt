@@ -11,7 +11,7 @@ use crate::refusal::Refusal;
 ghost use mathlib.Core.Path.{_≡_};
 ghost use lib.IntN.{pos};
 ghost use Prim.Native.Nat.{_≤_};
-ghost use Rattle.codec.specs.Operations.{isReach, parameterCoded, behaviourCoded, actionCoded, isSecond, openAt, dimensionAt, modifierAt, endAt, runAt, operationAt, calculationAt};
+ghost use Rattle.codec.specs.Operations.{isReach, parameterCoded, behaviourCoded, actionCoded, foldCoded, taskCoded, hasOneSource, isSecond, openAt, dimensionAt, modifierAt, endAt, runAt, operationAt, calculationAt};
 ghost use Rattle.codec.specs.declared.operation.Decoded.the-variants as decoded;
 
 // A dimension of a register's stream: a byte offset, how many indices, and a stride in elements.
@@ -53,7 +53,7 @@ pub enum Operation {
     Run(usize, u64),
 }
 
-// What a calculation does to two lanes.
+// What is done to two lanes.
 pub enum Action {
     Copy,
     Add,
@@ -65,9 +65,23 @@ pub enum Action {
     Larger,
 }
 
+// What is made of all lanes of one source: a single lane.
+pub enum Fold {
+    Sum,
+    Smallest,
+    Largest,
+    FirstLargest,
+}
+
+// What a calculation does: an action lane by lane, or a fold over all lanes of one source.
+pub enum Task {
+    Each(Action),
+    All(Fold),
+}
+
 // A calculation of a run's body.
 pub struct Calculation {
-    pub action: Action,
+    pub task: Task,
     pub destination: usize,
     pub first: usize,
     pub second: usize,
@@ -142,6 +156,36 @@ impl Action {
     }
 }
 
+impl Fold {
+    // The fold of a code, 8 to 11; any other code is read as 11.
+    pub fn coded(code: u64) -> Fold
+        ensures { λ r. ⌜ r ≡ foldCoded code ⌝ }
+    {
+        if code == 8 {
+            return Fold::Sum;
+        }
+        if code == 9 {
+            return Fold::Smallest;
+        }
+        if code == 10 {
+            return Fold::Largest;
+        }
+        Fold::FirstLargest
+    }
+}
+
+impl Task {
+    // What a calculation of a code does: lane by lane up to 7, over all lanes above.
+    pub fn coded(code: u64) -> Task
+        ensures { λ r. ⌜ r ≡ taskCoded code ⌝ }
+    {
+        if code <= 7 {
+            return Task::Each(Action::coded(code));
+        }
+        Task::All(Fold::coded(code))
+    }
+}
+
 // Whether an offset or a stride is in its range.
 pub fn in_reach(z: i64) -> bool
     ensures { λ r. ⌜ r ≡ isReach z ⌝ }
@@ -160,17 +204,27 @@ fn base_bytes(base: u64) -> Bytes
     Bytes(base as i64)
 }
 
-// Whether a second source is a register, and of a copy the first source.
+// Whether a calculation of a code has one source only: a copy, or one over all lanes.
+pub(crate) fn has_one_source(code: u64) -> bool
+    ensures { λ r. ⌜ r ≡ hasOneSource code ⌝ }
+{
+    if code == 0 {
+        return true;
+    }
+    7 < code
+}
+
+// Whether a second source is a register, and the first source where there is one source only.
 fn is_second(code: u64, first: u64, second: u64) -> bool
     ensures { λ r. ⌜ r ≡ isSecond code first second ⌝ }
 {
     if 31 < second {
         return false;
     }
-    if code != 0 {
-        return true;
+    if has_one_source(code) {
+        return second == first;
     }
-    second == first
+    true
 }
 
 // 1, open: header word, base. Both are read before the word is looked at.
@@ -343,7 +397,7 @@ pub fn decode_calculation(s: &[u8], c: Cursor) -> Body
     let Number::Value(code, c1) = c.number(s) else {
         return Body::Refused(Refusal::BadNumber, place);
     };
-    if 7 < code {
+    if 11 < code {
         return Body::Refused(Refusal::OutOfRange, place);
     }
     let Number::Value(destination, c2) = c1.number(s) else {
@@ -365,7 +419,7 @@ pub fn decode_calculation(s: &[u8], c: Cursor) -> Body
         return Body::Refused(Refusal::OutOfRange, place);
     }
     let calculation = Calculation {
-        action: Action::coded(code),
+        task: Task::coded(code),
         destination: destination as usize,
         first: first as usize,
         second: second as usize,

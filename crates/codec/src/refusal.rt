@@ -21,7 +21,7 @@ impl Role {
     }
 }
 
-// Why an operation, a calculation, a sheet or a nest is refused: document 01's table, in its order.
+// Why an operation, a calculation, a sheet or a nest is refused: document 01's table, in its order, then document 02's.
 pub enum Refusal {
     // 1: a number is cut off, too long or not shortest
     BadNumber,
@@ -57,6 +57,8 @@ pub enum Refusal {
     LoopRegister,
     // 17: no room for the translated sheet
     NoRoom,
+    // 18: no lanes for smallest, largest or first largest
+    NoLanes,
 }
 
 impl Refusal {
@@ -82,6 +84,7 @@ impl Refusal {
             Refusal::Lengths => 15,
             Refusal::LoopRegister => 16,
             Refusal::NoRoom => 17,
+            Refusal::NoLanes => 18,
         }
     }
     // The lane that 14 names; 0 of any other refusal.

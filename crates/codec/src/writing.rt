@@ -7,9 +7,12 @@ use crate::operation::Action;
 use crate::operation::Behaviour;
 use crate::operation::Calculation;
 use crate::operation::Dimension;
+use crate::operation::Fold;
 use crate::operation::Modifier;
 use crate::operation::Operation;
 use crate::operation::Parameter;
+use crate::operation::Task;
+use crate::operation::has_one_source;
 use crate::operation::in_reach;
 ghost use mathlib.Core.Path.{_≡_};
 ghost use mathlib.Core.Bool.{true};
@@ -21,7 +24,7 @@ ghost use lib.Signed.{mag};
 ghost use Rattle.codec.specs.Numbers.{numberBytes, unsignedOf};
 ghost use lib.IntN.{natAbs};
 ghost use Rattle.codec.specs.Headers.{headerInRange, wordOf};
-ghost use Rattle.codec.specs.Operations.{signedBytes, isRegister, isReach, isCount, baseInRange, dimensionInRange, modifierInRange, operationInRange, operationBytes, calculationInRange, calculationBytes, parameterCode, behaviourCode, actionCode};
+ghost use Rattle.codec.specs.Operations.{signedBytes, isRegister, isReach, isCount, baseInRange, dimensionInRange, modifierInRange, operationInRange, operationBytes, calculationInRange, calculationBytes, parameterCode, behaviourCode, actionCode, foldCode, taskCode};
 ghost use Rattle.codec.specs.declared.operation.Operation.the-variants as op;
 ghost use Rattle.codec.specs.Writing.{isNumber, isSigned, writtenTo, bytesAfter, textOf};
 
@@ -283,11 +286,31 @@ fn action_code(a: Action) -> u64
     }
 }
 
-// Whether every field of a calculation is in its range; the second source of a copy is the first.
+fn fold_code(f: Fold) -> u64
+    ensures { λ r. ⌜ (r ≡ foldCode f) × (r ≤ 11) ⌝ }
+{
+    match f {
+        Fold::Sum => 8,
+        Fold::Smallest => 9,
+        Fold::Largest => 10,
+        Fold::FirstLargest => 11,
+    }
+}
+
+fn task_code(t: Task) -> u64
+    ensures { λ r. ⌜ (r ≡ taskCode t) × (r ≤ 11) ⌝ }
+{
+    match t {
+        Task::Each(action) => action_code(action),
+        Task::All(fold) => fold_code(fold),
+    }
+}
+
+// Whether every field of a calculation is in its range; where there is one source only, the second is the first.
 fn calculation_in_range(c: Calculation) -> bool
     ensures { λ r. ⌜ r ≡ calculationInRange c ⌝ }
 {
-    let a = c.action;
+    let t = c.task;
     if 31 < c.destination {
         return false;
     }
@@ -297,7 +320,7 @@ fn calculation_in_range(c: Calculation) -> bool
     if 31 < c.second {
         return false;
     }
-    if action_code(a) == 0 {
+    if has_one_source(task_code(t)) {
         return c.second == c.first;
     }
     true
@@ -393,8 +416,8 @@ fn calculation_text(c: Calculation) -> Text
     requires { ⌜ calculationInRange c ≡ true ⌝ }
     ensures { λ r. ⌜ (textOf r ≡ calculationBytes c) × (r .len ≤ 32) ⌝ }
 {
-    let a = c.action;
-    let code = number_text(action_code(a));
+    let t = c.task;
+    let code = number_text(task_code(t));
     let one = with_number(code, c.destination as u64);
     let two = with_number(one, c.first as u64);
     with_number(two, c.second as u64)

@@ -10,6 +10,7 @@ use lib.Seq.{drop-cons, getD-take, take-suc-set}
 use borrow.Author.Tests.{eq-eqb, ne-eqb}
 use Rattle.codec.specs.Operations.{calculationAt}
 use Rattle.codec.specs.declared.operation.Action.the-variants.{Copy}
+use Rattle.codec.specs.declared.operation.Task.the-variants.{Each}
 use Rattle.codec.specs.declared.operation.Calculation.{Calculation}
 use Rattle.codec.specs.declared.operation.Body.the-variants as body
 use Rattle.codec.specs.declared.number.Cursor.{Cursor}
@@ -19,7 +20,7 @@ use Rattle.engine.specs.declared.run.Placed.{Placed}
 
 -- what `getD` gives past the end of a body
 abbrev pub noStep : Placed
-noStep = record { place = 0; calculation = record { action = Copy; destination = 0; first = 0; second = 0 } }
+noStep = record { place = 0; calculation = record { task = Each Copy; destination = 0; first = 0; second = 0 } }
 
 module _ (register n k : ℕ) (steps : List Placed) (below : k < n) (long : n ≤ length steps) where
   here : drop k (take n steps) ≡ getD steps k noStep ∷ drop (k + 1) (take n steps)

@@ -1,6 +1,6 @@
 -- A calculation carried out on running registers is the calculation on the registers that they stand for.
 --
---   fetched-narrow, from-narrow, wise-narrow   lanes are numbers of their width
+--   fetched-narrow, from-narrow   lanes are numbers of their width
 --   read-back, result-back        lanes put into a register's bytes are read back
 --   chunk-same                    the bytes of a source after it was read
 --   taken-live, taken-plain       a register taken as an operand
@@ -14,8 +14,8 @@ use native.Mathlib.Omega.{arith}
 use lib.ListN.{length, getD, set, length-map}
 use lib.IntN.{ℤ}
 use lib.Pow.{pow-pos}
-use Rattle.codec.specs.declared.operation.Action.{Action}
-use Rattle.engine.specs.Lanes.{lane, lanewise}
+use Rattle.codec.specs.declared.operation.Task.{Task}
+use Rattle.engine.specs.Lanes.{outcome, outcomeCount}
 use Rattle.codec.specs.TestLaws.{never}
 use Rattle.engine.specs.Loops.{natural}
 use Rattle.engine.specs.Chunks.{chunk}
@@ -26,9 +26,13 @@ use Rattle.engine.specs.Places.{placeAt}
 use Rattle.engine.specs.Stretches.{fetchedAt, Parts}
 use Rattle.engine.specs.Runnings.{viewOf, Remembers, filledWith, behind, afterwards, listedIn, Looks}
 use Rattle.engine.specs.ByteLaws.{Bytewise, value-small}
-use Rattle.engine.specs.LaneLaws.{lane-small}
+use Rattle.engine.specs.LaneLaws.{width-range}
 use Rattle.engine.specs.PackedLaws.{lanes-packed}
-use Rattle.engine.specs.EffectLaws.{length-lanes, lanewise-length}
+use Rattle.engine.specs.EffectLaws.{length-lanes, outcome-length}
+use Rattle.engine.specs.EffectGood.{outcome-fits}
+use Rattle.engine.specs.FoldLaws.{outcome-small}
+use Rattle.engine.specs.Good.{IsWidth}
+use Rattle.engine.proofs.LaneCounts.{few-lanes}
 use Rattle.engine.specs.Operands.{operandFrom, Taken, lanesOf}
 use Rattle.engine.specs.Calculations.{lanesIn}
 use Rattle.engine.specs.declared.stream.Pattern.{Pattern}
@@ -64,15 +68,6 @@ from-narrow bytes w at zero b k = pow-pos (8 * w)
 from-narrow bytes w at (suc n) b zero = value-small w bytes at b
 from-narrow bytes w at (suc n) b (suc k) = from-narrow bytes w (at + w) n b k
 
--- and what is calculated of them
-wise-narrow : (action : Action) (w : ℕ) (xs ys : List ℕ) → ((k : ℕ) → getD xs k 0 < 2 ^ (8 * w)) → ((k : ℕ) → getD ys k 0 < 2 ^ (8 * w))
-    → (k : ℕ) → getD (lanewise (lane action (8 * w)) xs ys) k 0 < 2 ^ (8 * w)
-unfolding lanewise
-wise-narrow action w [] ys p q k = p k
-wise-narrow action w (x ∷ xs) [] p q k = q k
-wise-narrow action w (x ∷ xs) (y ∷ ys) p q zero = lane-small action (8 * w) x y (p 0) (q 0)
-wise-narrow action w (x ∷ xs) (y ∷ ys) p q (suc k) = wise-narrow action w xs ys (λ j. p (suc j)) (λ j. q (suc j)) k
-
 -- the bytes of a source after it was read
 pub chunk-same : (live : Bool) (w : ℕ) (f g : List ℕ) (lanes : List ℕ) → cond live (packed w f) lanes ≡ cond live (packed w (cond live f g)) lanes
 chunk-same true w f g lanes = refl
@@ -92,13 +87,17 @@ module _ (w n : ℕ) (memory : List ℕ) (x : Ahead) (xs : List (List ℤ)) (lan
       go false f = rw f (ap (λ m. lanesFrom m w 0 n) (rw f at e) ∙ ap (λ j. lanesFrom lanes w 0 j) (sym c))
 
 -- the lanes of a result are read back from its bytes
-pub result-back : (action : Action) (w n : ℕ) (first second : List ℕ) → n * w ≤ 64 → Bytewise first → Bytewise second
-    → let xs = lanewise (lane action (8 * w)) (lanesFrom first w 0 n) (lanesFrom second w 0 n) in lanesFrom (packed w xs) w 0 n ≡ xs
-result-back action w n first second room p q =
-    let xs = lanewise (lane action (8 * w)) (lanesFrom first w 0 n) (lanesFrom second w 0 n) in
-    let l : length xs ≡ n = lanewise-length _ (lanesFrom first w 0 n) (lanesFrom second w 0 n) (length-lanes first w 0 n ∙ sym (length-lanes second w 0 n)) ∙ length-lanes first w 0 n in
+pub result-back : (t : Task) (w n : ℕ) (first second : List ℕ) → IsWidth w → n * w ≤ 64 → Bytewise first → Bytewise second
+    → let xs = outcome t (8 * w) (lanesFrom first w 0 n) (lanesFrom second w 0 n) in lanesFrom (packed w xs) w 0 (outcomeCount t n) ≡ xs
+result-back t w n first second i room p q =
+    let xs = outcome t (8 * w) (lanesFrom first w 0 n) (lanesFrom second w 0 n) in
+    let f = length-lanes first w 0 n in
+    let r = width-range w i in
+    let l : length xs ≡ outcomeCount t n = outcome-length t _ (lanesFrom first w 0 n) (lanesFrom second w 0 n) (f ∙ sym (length-lanes second w 0 n)) ∙ ap (outcomeCount t) f in
     ap (λ j. lanesFrom (packed w xs) w 0 j) (sym l)
-    ∙ lanes-packed w xs (wise-narrow action w (lanesFrom first w 0 n) (lanesFrom second w 0 n) (from-narrow first w 0 n p) (from-narrow second w 0 n q)) (omega (arith, ap (λ j. j * w) l))
+    ∙ lanes-packed w xs
+    (outcome-small (8 * w) (omega (arith, r .0)) t (lanesFrom first w 0 n) (lanesFrom second w 0 n) (omega (arith, f, few-lanes n w (r .0) room)) (from-narrow first w 0 n p) (from-narrow second w 0 n q))
+    (subst (λ j. j * w ≤ 64) (sym l) (outcome-fits t 64 n w (omega arith) i room))
 
 -- an open stream taken as an operand
 pub taken-live : (p : Pattern) (before row : List ℕ) (q : Running) (most plain : ℕ) (xs : List (List ℤ)) (o : Ahead) → isOpen (q .state) ≡ true → o .live ≡ true

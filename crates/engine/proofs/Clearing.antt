@@ -16,6 +16,7 @@ use lib.Dec.{eqb, ltb}
 use lib.IntN.{ℤ}
 use borrow.Author.Tests.{eqb-true, ltb-false, not-false}
 use Rattle.codec.specs.TestLaws.{or-false, and-false}
+use Rattle.codec.specs.declared.operation.Task.{Task}
 use Rattle.codec.specs.declared.refusal.Role.{Role}
 use Rattle.codec.specs.declared.refusal.Role.the-variants as role
 use Rattle.codec.specs.declared.refusal.Refusal.{Refusal}
@@ -24,6 +25,7 @@ use Rattle.engine.specs.Loops.{elements}
 use Rattle.engine.specs.Chunks.{chunk}
 use Rattle.engine.specs.ChunkLaws.{covered, chunk-elements}
 use Rattle.engine.specs.CountLaws.{few}
+use Rattle.engine.specs.Lanes.{outcomeCount}
 use Rattle.engine.specs.Registers.{isOpen}
 use Rattle.engine.specs.Stretches.{allWithin}
 use Rattle.engine.specs.Places.{Ready}
@@ -33,7 +35,7 @@ use Rattle.engine.specs.LaneLaws.{width-range}
 use Rattle.engine.specs.Runnings.{viewOf, bare, listedIn}
 use Rattle.engine.specs.Operands.{operandFrom, Taken, outsideOf, whyOn}
 use Rattle.engine.specs.Calculations.{Fit, Cleared}
-use Rattle.engine.proofs.Ordered.{states, after, widths, flags, fits, one-width, store-width, target-few, third-outside}
+use Rattle.engine.proofs.Ordered.{states, after, widths, lacking, flags, fits, outcome-room, one-width, store-width, target-few, third-outside}
 use Rattle.engine.proofs.Carrying.{taken-long}
 use Rattle.engine.specs.declared.check.Why.{Why}
 use Rattle.engine.specs.declared.check.Why.the-variants.{Nothing, Because}
@@ -65,8 +67,8 @@ ready vl p row q f e =
     }
 
 -- 13: the sources' lanes differ in number, or exceed the store's chunk
-abbrev pub lanesDiffer : Ahead → Ahead → Ahead → Bool
-lanesDiffer x y z = not (eqb (x .count) (y .count)) || z .live && ltb (z .count) (x .count)
+abbrev pub lanesDiffer : Task → Ahead → Ahead → Ahead → Bool
+lanesDiffer t x y z = not (eqb (x .count) (y .count)) || z .live && ltb (z .count) (outcomeCount t (x .count))
 
 -- elements moved are few
 pub moved-room : (vl : ℕ) (p : Pattern) (before : List ℕ) (q : Running) → Fit vl p before q → (most plain : ℕ) (row : List ℕ) (xs : List (List ℤ)) (o : Ahead) → Taken p before q most plain row xs o
@@ -95,11 +97,11 @@ pub second-blamed : (len width : ℕ) (same : Bool) (o : Ahead) (xs ys : List (L
 second-blamed len width true o xs ys q e f = no-role role.First role.Second len width o xs (f refl) ∙ sym e
 second-blamed len width false o xs ys q e f = sym e
 
-module _ (vl len : ℕ) (same : Bool) (pa pb pd : Pattern) (a b d : Running) (va vb vd va' vb' vd' : List ℕ) (xs ys zs : List (List ℤ)) where
+module _ (task : Task) (vl len : ℕ) (same : Bool) (pa pb pd : Pattern) (a b d : Running) (va vb vd va' vb' vd' : List ℕ) (xs ys zs : List (List ℤ)) where
   -- a refused calculation
   pub turned-down : (r : Checked) (x : Refusal) → r .why ≡ Because x
-      → ((la lb ld memory : List ℕ) → length la ≡ 64 → length lb ≡ 64 → length ld ≡ 64 → length memory ≡ len → whyOn vl memory (viewOf pa la va a) (viewOf pb lb vb b) (viewOf pd ld vd d) ≡ Because x)
-      → Cleared vl len same pa pb pd a b d va vb vd va' vb' vd' xs ys zs r
+      → ((la lb ld memory : List ℕ) → length la ≡ 64 → length lb ≡ 64 → length ld ≡ 64 → length memory ≡ len → whyOn task vl memory (viewOf pa la va a) (viewOf pb lb vb b) (viewOf pd ld vd d) ≡ Because x)
+      → Cleared task vl len same pa pb pd a b d va vb vd va' vb' vd' xs ys zs r
   turned-down r x e f = record {
     refused = λ la lb ld memory p q s t. e ∙ sym (f la lb ld memory p q s t);
     first = some-reason (r .why) x e;
@@ -110,42 +112,42 @@ module _ (vl len : ℕ) (same : Bool) (pa pb pd : Pattern) (a b d : Running) (va
     again = some-reason (r .why) x e;
   }
 
-  module _ (vl64 : vl ≤ 64) (fa : Fit vl pa va a) (fb : Fit vl pb vb b) (fd : Fit vl pd vd d) (x y z : Ahead)
-      (tx : Taken pa va a (vl / a .width) (a .valid) va' xs x) (ty : Taken pb vb b (vl / b .width) (b .valid) vb' ys y) (tz : Taken pd vd d (x .count) (x .count) vd' zs z)
+  module _ (least : 8 ≤ vl) (vl64 : vl ≤ 64) (fa : Fit vl pa va a) (fb : Fit vl pb vb b) (fd : Fit vl pd vd d) (x y z : Ahead)
+      (tx : Taken pa va a (vl / a .width) (a .valid) va' xs x) (ty : Taken pb vb b (vl / b .width) (b .valid) vb' ys y) (tz : Taken pd vd d (outcomeCount task (x .count)) (outcomeCount task (x .count)) vd' zs z)
       (e : firstOf (states (bare a) (bare b) (bare d)) ≡ Nothing) (w : widths (bare a) (bare b) (bare d) ≡ false) where
     pub by-operands : (la lb ld memory : List ℕ) → length la ≡ 64 → length lb ≡ 64 → length ld ≡ 64 → length memory ≡ len
-        → whyOn vl memory (viewOf pa la va a) (viewOf pb lb vb b) (viewOf pd ld vd d)
-        ≡ firstOf (after false (lanesDiffer x y z) (outsideOf role.First len (a .width) x xs) (outsideOf role.Second len (b .width) y ys) (outsideOf role.Destination len (d .width) z zs))
+        → whyOn task vl memory (viewOf pa la va a) (viewOf pb lb vb b) (viewOf pd ld vd d)
+        ≡ firstOf (after false (lanesDiffer task x y z) (lacking task (x .count)) (outsideOf role.First len (a .width) x xs) (outsideOf role.Second len (b .width) y ys) (outsideOf role.Destination len (d .width) z zs))
     by-operands la lb ld memory p q s t =
-        flags vl memory (viewOf pa la va a) (viewOf pb lb vb b) (viewOf pd ld vd d) (fa .good la p) (fb .good lb q)
+        flags task vl least memory (viewOf pa la va a) (viewOf pb lb vb b) (viewOf pd ld vd d) (fa .good la p) (fb .good lb q)
         (operandFrom pa la va' xs a x) (operandFrom pb lb vb' ys b y) (operandFrom pd ld vd' zs d z) (tx .operates la) (ty .operates lb) (tz .operates ld) e w
-        ∙ ap (λ n. firstOf (after false (lanesDiffer x y z) (outsideOf role.First n (a .width) x xs) (outsideOf role.Second n (b .width) y ys) (outsideOf role.Destination n (d .width) z zs))) t
+        ∙ ap (λ n. firstOf (after false (lanesDiffer task x y z) (lacking task (x .count)) (outsideOf role.First n (a .width) x xs) (outsideOf role.Second n (b .width) y ys) (outsideOf role.Destination n (d .width) z zs))) t
 
     -- an operand refuses
     pub stopped : (r : Checked) (v : Refusal) → r .why ≡ Because v
-        → ((u : Why) → u ≡ firstOf (after false (lanesDiffer x y z) (outsideOf role.First len (a .width) x xs) (outsideOf role.Second len (b .width) y ys) (outsideOf role.Destination len (d .width) z zs)) → u ≡ Because v)
-        → Cleared vl len same pa pb pd a b d va vb vd va' vb' vd' xs ys zs r
+        → ((u : Why) → u ≡ firstOf (after false (lanesDiffer task x y z) (lacking task (x .count)) (outsideOf role.First len (a .width) x xs) (outsideOf role.Second len (b .width) y ys) (outsideOf role.Destination len (d .width) z zs)) → u ≡ Because v)
+        → Cleared task vl len same pa pb pd a b d va vb vd va' vb' vd' xs ys zs r
     stopped r v f g = turned-down r v f (λ la lb ld memory p q s t. g _ (by-operands la lb ld memory p q s t))
 
-    module _ (l : lanesDiffer x y z ≡ false) (ox : firstOf (outsideOf role.First len (a .width) x xs ∷ []) ≡ Nothing) (oy : firstOf (outsideOf role.Second len (b .width) y ys ∷ []) ≡ Nothing)
+    module _ (l : lanesDiffer task x y z ≡ false) (some : lacking task (x .count) ≡ false) (ox : firstOf (outsideOf role.First len (a .width) x xs ∷ []) ≡ Nothing) (oy : firstOf (outsideOf role.Second len (b .width) y ys ∷ []) ≡ Nothing)
         (oz : firstOf (outsideOf role.Destination len (d .width) z zs ∷ []) ≡ Nothing) where
       abbrev zeros : List ℕ
       zeros = replicate 64 0
 
-      none : firstOf (after false (lanesDiffer x y z) (outsideOf role.First len (a .width) x xs) (outsideOf role.Second len (b .width) y ys) (outsideOf role.Destination len (d .width) z zs)) ≡ Nothing
-      none = third-outside _ _ _ _ _ refl l ox oy ∙ oz
+      none : firstOf (after false (lanesDiffer task x y z) (lacking task (x .count)) (outsideOf role.First len (a .width) x xs) (outsideOf role.Second len (b .width) y ys) (outsideOf role.Destination len (d .width) z zs)) ≡ Nothing
+      none = third-outside _ _ _ _ _ _ refl l some ox oy ∙ oz
 
       one : b .width ≡ a .width
-      one = one-width vl [] (viewOf pa zeros va a) (viewOf pb zeros vb b) (viewOf pd zeros vd d) (fa .good zeros refl) (fb .good zeros refl) (operandFrom pa zeros va' xs a x) (operandFrom pb zeros vb' ys b y) (operandFrom pd zeros vd' zs d z) (tx .operates zeros) (ty .operates zeros) (tz .operates zeros) e w
+      one = one-width task vl least [] (viewOf pa zeros va a) (viewOf pb zeros vb b) (viewOf pd zeros vd d) (fa .good zeros refl) (fb .good zeros refl) (operandFrom pa zeros va' xs a x) (operandFrom pb zeros vb' ys b y) (operandFrom pd zeros vd' zs d z) (tx .operates zeros) (ty .operates zeros) (tz .operates zeros) e w
 
       stores : isOpen (d .state) ≡ true → d .width ≡ a .width
-      stores = store-width vl [] (viewOf pa zeros va a) (viewOf pb zeros vb b) (viewOf pd zeros vd d) (fa .good zeros refl) (fb .good zeros refl) (operandFrom pa zeros va' xs a x) (operandFrom pb zeros vb' ys b y) (operandFrom pd zeros vd' zs d z) (tx .operates zeros) (ty .operates zeros) (tz .operates zeros) e w
+      stores = store-width task vl least [] (viewOf pa zeros va a) (viewOf pb zeros vb b) (viewOf pd zeros vd d) (fa .good zeros refl) (fb .good zeros refl) (operandFrom pa zeros va' xs a x) (operandFrom pb zeros vb' ys b y) (operandFrom pd zeros vd' zs d z) (tx .operates zeros) (ty .operates zeros) (tz .operates zeros) e w
 
       -- no check refuses
       pub cleared : (same ≡ true → (y ≡ x) × (listedIn y ys ≡ listedIn x xs)) → (r : Checked) → r ≡ record { why = Nothing; first = x; second = y; destination = z }
-          → Cleared vl len same pa pb pd a b d va vb vd va' vb' vd' xs ys zs r
+          → Cleared task vl len same pa pb pd a b d va vb vd va' vb' vd' xs ys zs r
       cleared g r f =
-          subst (Cleared vl len same pa pb pd a b d va vb vd va' vb' vd' xs ys zs) (sym f)
+          subst (Cleared task vl len same pa pb pd a b d va vb vd va' vb' vd' xs ys zs) (sym f)
           (record {
             refused = λ la lb ld memory p q s t. sym (by-operands la lb ld memory p q s t ∙ none);
             first = λ t. tx;
@@ -154,17 +156,18 @@ module _ (vl len : ℕ) (same : Bool) (pa pb pd : Pattern) (a b d : Running) (va
             widths = λ t. (one, stores);
             within = λ t. record {
               wide = fa .good zeros refl .width;
-              room = omega (arith, fits vl [] (viewOf pa zeros va a) (viewOf pb zeros vb b) (viewOf pd zeros vd d) (fa .good zeros refl) (fb .good zeros refl) (operandFrom pa zeros va' xs a x) (operandFrom pb zeros vb' ys b y) (operandFrom pd zeros vd' zs d z) (tx .operates zeros) (ty .operates zeros) (tz .operates zeros) e w);
+              room = omega (arith, fits task vl least [] (viewOf pa zeros va a) (viewOf pb zeros vb b) (viewOf pd zeros vd d) (fa .good zeros refl) (fb .good zeros refl) (operandFrom pa zeros va' xs a x) (operandFrom pb zeros vb' ys b y) (operandFrom pd zeros vd' zs d z) (tx .operates zeros) (ty .operates zeros) (tz .operates zeros) e w);
+              fits = omega (arith, outcome-room task vl least [] (viewOf pa zeros va a) (viewOf pb zeros vb b) (viewOf pd zeros vd d) (fa .good zeros refl) (fb .good zeros refl) (operandFrom pa zeros va' xs a x) (operandFrom pb zeros vb' ys b y) (operandFrom pd zeros vd' zs d z) (tx .operates zeros) (ty .operates zeros) (tz .operates zeros) e w);
               counts = sym (eqb-true _ _ (not-false _ (or-false _ _ l .0)));
               fills = λ u.
-                  let p : x .count ≤ z .count = ltb-false (z .count) (x .count) (and-false _ _ (or-false (not (eqb (x .count) (y .count))) _ l .1) u) in
-                  omega (arith, target-few (x .count) (viewOf pd zeros vd d) (operandFrom pd zeros vd' zs d z) (tz .operates zeros));
+                  let p : outcomeCount task (x .count) ≤ z .count = ltb-false (z .count) (outcomeCount task (x .count)) (and-false _ _ (or-false (not (eqb (x .count) (y .count))) _ l .1) u) in
+                  omega (arith, target-few (outcomeCount task (x .count)) (viewOf pd zeros vd d) (operandFrom pd zeros vd' zs d z) (tz .operates zeros));
               first = unblamed role.First len (a .width) x xs ox;
               second = λ u. rw (one) at (unblamed role.Second len (b .width) y ys oy u);
               third = λ u. rw (stores (sym (tz .operates zeros .told) ∙ u)) at (unblamed role.Destination len (d .width) z zs oz u);
               firstLong = taken-long pa va va' a (vl / a .width) (a .valid) xs x tx;
               secondLong = taken-long pb vb vb' b (vl / b .width) (b .valid) ys y ty;
-              thirdLong = taken-long pd vd vd' d (x .count) (x .count) zs z tz;
+              thirdLong = taken-long pd vd vd' d (outcomeCount task (x .count)) (outcomeCount task (x .count)) zs z tz;
               parts = (tx .parts, (ty .parts, tz .parts));
             };
             again = λ t. g;

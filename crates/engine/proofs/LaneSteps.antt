@@ -1,6 +1,6 @@
 -- A lane among the others: where it ends, what it holds, and one more packed.
 use Prim.Native.Nat.{ℕ, zero, suc, _+_, _-_, _*_, _≤_, _<_}
-use mathlib.Core.Path.{_≡_, refl, sym, _∙_, ap}
+use mathlib.Core.Path.{_≡_, refl, sym, _∙_, ap, ap₂}
 use mathlib.Core.List.{List, [], _∷_, _++_, append-assoc, append-nil}
 use native.Mathlib.Omega.{arith}
 use native.Mathlib.Numerals.{add-one}
@@ -68,3 +68,9 @@ packed-more w xs k p h =
 pub packed-none : (w : ℕ) → packed w [] ≡ zeros 64
 unfolding joined
 packed-none w = refl
+
+-- a single lane
+pub packed-one : (w x : ℕ) → w ≤ 64 → packed w (x ∷ []) ≡ sets (zeros 64) 0 (littleEndian w x)
+packed-one w x h =
+    let e : 0 * w ≡ 0 = omega arith in
+    packed-snoc w [] x (omega arith) ∙ ap₂ (λ l i. sets l i (littleEndian w x)) (packed-none w) e

@@ -18,6 +18,7 @@ mod PlaceSteps
 mod LaneSteps
 mod StretchSteps
 mod PartSteps
+mod FoldSteps
 mod LaneCounts
 mod Ordered
 mod BodySteps
@@ -29,6 +30,9 @@ pub mod Promise2
 pub mod Unrefused
 pub mod Promise1
 pub mod Fallen
+pub mod Steadiness
+mod Summing
+pub mod RowSums
 pub mod Looking
 pub mod Carrying
 mod Taking

@@ -44,7 +44,7 @@ soFar rs memory passes calculations =
     record { world = record { machine = machineOf rs; memory = memory }; report = record { passes = passes; calculations = calculations }; verdict = Done }
 
 module _ (vl : ℕ) (c : Placed) (rs : List Register) (memory : List ℕ) (p q : ℕ) (why : Why) (f s d : Register) (after : List ℕ)
-    (h : Calculated vl (c .calculation .action) memory (reg (machineOf rs) (c .calculation .first)) (reg (machineOf rs) (c .calculation .second)) (reg (machineOf rs) (c .calculation .destination)) why f s d after) where
+    (h : Calculated vl (c .calculation .task) memory (reg (machineOf rs) (c .calculation .first)) (reg (machineOf rs) (c .calculation .second)) (reg (machineOf rs) (c .calculation .destination)) why f s d after) where
   -- the registers after it
   abbrev pub registersOn : List Register
   registersOn = set (set (set rs (c .calculation .first) f) (c .calculation .second) s) (c .calculation .destination) d
@@ -59,8 +59,8 @@ module _ (vl : ℕ) (c : Placed) (rs : List Register) (memory : List ℕ) (p q :
       let a = reg (machineOf rs) (c .calculation .first) in
       let b = reg (machineOf rs) (c .calculation .second) in
       let z = reg (machineOf rs) (c .calculation .destination) in
-      let w : whyOn vl memory a b z ≡ Nothing = sym (h .refused) ∙ e in
-      let xs = resultsOn vl (c .calculation .action) memory a b in
+      let w : whyOn (c .calculation .task) vl memory a b z ≡ Nothing = sym (h .refused) ∙ e in
+      let xs = resultsOn vl (c .calculation .task) memory a b in
       let k1 : readFrom vl memory a ≡ f = sym (h .read e) in
       let k2 : readFrom vl memory b ≡ s = sym (h .other e) in
       let k3 : writtenTo (a .width) xs z ≡ d = sym (h .written e) in
@@ -73,8 +73,8 @@ module _ (vl : ℕ) (c : Placed) (rs : List Register) (memory : List ℕ) (p q :
       let a = reg (machineOf rs) (c .calculation .first) in
       let b = reg (machineOf rs) (c .calculation .second) in
       let z = reg (machineOf rs) (c .calculation .destination) in
-      let w : whyOn vl memory a b z ≡ Because x = sym (h .refused) ∙ e in
-      let xs = resultsOn vl (c .calculation .action) memory a b in
+      let w : whyOn (c .calculation .task) vl memory a b z ≡ Because x = sym (h .refused) ∙ e in
+      let xs = resultsOn vl (c .calculation .task) memory a b in
       (h .stored ∙ ap (λ y. unlessBecause y (memoryAfter vl xs memory z) memory) w, step-refused vl c (soFar rs memory p q) x (why-is ∙ e))
 
   pub length-on : why ≡ Nothing → length after ≡ length memory
@@ -92,6 +92,7 @@ at-step n k steps below long =
 -- within a pass: what is left of it gives what the whole gives
 pub record Passing (vl n : ℕ) (steps : List Placed) (passes : ℕ) (rs₀ : List Register) (memory₀ : List ℕ) (calculations₀ : ℕ)
     (rs : List Register) (memory : List ℕ) (calculations k : ℕ) : Type 0 where
+  pub least : 8 ≤ vl
   pub within : k ≤ n
   pub named : AllNamed (drop k (take n steps))
   pub good : AllGood vl (machineOf rs)
@@ -99,9 +100,9 @@ pub record Passing (vl n : ℕ) (steps : List Placed) (passes : ℕ) (rs₀ : Li
   pub long : length memory ≡ length memory₀
   pub few : calculations ≤ calculations₀ + k
 
-pub passing : (vl n : ℕ) (steps : List Placed) (p : ℕ) (rs : List Register) (memory : List ℕ) (q : ℕ) → AllNamed (take n steps) → AllGood vl (machineOf rs)
+pub passing : (vl n : ℕ) (steps : List Placed) (p : ℕ) (rs : List Register) (memory : List ℕ) (q : ℕ) → 8 ≤ vl → AllNamed (take n steps) → AllGood vl (machineOf rs)
     → Passing vl n steps p rs memory q rs memory q 0
-passing vl n steps p rs memory q nm g = record { within = omega arith; named = nm; good = g; same = refl; long = refl; few = omega arith }
+passing vl n steps p rs memory q least nm g = record { least = least; within = omega arith; named = nm; good = g; same = refl; long = refl; few = omega arith }
 
 module _ (vl n : ℕ) (steps : List Placed) (p : ℕ) (rs₀ : List Register) (memory₀ : List ℕ) (q₀ : ℕ) (rs : List Register) (memory : List ℕ) (q k : ℕ)
     (i : Passing vl n steps p rs₀ memory₀ q₀ rs memory q k) (below : k < n) (long : n ≤ length steps) where
@@ -116,15 +117,16 @@ module _ (vl n : ℕ) (steps : List Placed) (p : ℕ) (rs₀ : List Register) (m
   named-here = both .0
 
   module _ (why : Why) (f s d : Register) (after : List ℕ)
-      (h : Calculated vl (getD steps k noStep .calculation .action) memory (reg (machineOf rs) (getD steps k noStep .calculation .first)) (reg (machineOf rs) (getD steps k noStep .calculation .second)) (reg (machineOf rs) (getD steps k noStep .calculation .destination)) why f s d after) where
+      (h : Calculated vl (getD steps k noStep .calculation .task) memory (reg (machineOf rs) (getD steps k noStep .calculation .first)) (reg (machineOf rs) (getD steps k noStep .calculation .second)) (reg (machineOf rs) (getD steps k noStep .calculation .destination)) why f s d after) where
     pub passing-on : why ≡ Nothing → Passing vl n steps p rs₀ memory₀ q₀ (registersOn vl (getD steps k noStep) rs memory p q why f s d after h) after (q + 1) (k + 1)
     passing-on e =
         let c = getD steps k noStep in
         let o = step-on vl c rs memory p q why f s d after h e in
         record {
+          least = i .least;
           within = omega arith;
           named = both .1;
-          good = subst (λ g. AllGood vl (g .world .machine)) o (step-good vl c (soFar rs memory p q) (both .0) (i .good));
+          good = subst (λ g. AllGood vl (g .world .machine)) o (step-good vl c (soFar rs memory p q) (i .least) (both .0) (i .good));
           same = sym (pass-next vl c (drop (k + 1) (take n steps)) (soFar rs memory p q) (ap (λ g. g .verdict) o) ∙ ap (pass vl (drop (k + 1) (take n steps))) o) ∙ here;
           long = length-on vl c rs memory p q why f s d after h e ∙ i .long;
           few = omega (arith, i .few);

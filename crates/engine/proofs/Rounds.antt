@@ -12,15 +12,15 @@ use native.Mathlib.Omega.{arith}
 use lib.ListN.{length, getD, set, length-map}
 use lib.IntN.{ℤ}
 use Rattle.codec.specs.TestLaws.{never}
-use Rattle.codec.specs.declared.operation.Action.{Action}
+use Rattle.codec.specs.declared.operation.Task.{Task}
 use Rattle.codec.specs.declared.refusal.Refusal.{Refusal}
 use Rattle.engine.specs.Good.{Good, AllGood}
-use Rattle.engine.specs.Lanes.{lane, lanewise}
+use Rattle.engine.specs.Lanes.{outcome, outcomeCount}
 use Rattle.engine.specs.Loops.{natural}
 use Rattle.engine.specs.Memory.{valueAt, holding, packed}
 use Rattle.engine.specs.Registers.{isOpen, reg}
 use Rattle.engine.specs.Configure.{unlessBecause}
-use Rattle.engine.specs.EffectLaws.{length-lanes, lanewise-length}
+use Rattle.engine.specs.EffectLaws.{length-lanes, outcome-length}
 use Rattle.engine.specs.Stretches.{storedAt}
 use Rattle.engine.specs.Rows.{patternAt}
 use Rattle.engine.specs.Runnings.{viewOf, Remembers, filledWith, afterwards, listedIn}
@@ -69,14 +69,14 @@ module _ (shapes : List (List ℕ)) (places : List (List ℤ)) (lanes indices : 
   lanes-long vl g i h = subst (Good vl) (views-at shapes places lanes indices all i h) (g .good i h) .lanes
 
   -- a calculation on three of them
-  pub calculated-at : (vl : ℕ) (action : Action) (memory : List ℕ) (i j t : ℕ) → i < 32 → j < 32 → t < 32 → (why : Why) (f s w : Register) (after : List ℕ)
-      → Calculated vl action memory (viewAt shapes places lanes indices all i) (viewAt shapes places lanes indices all j) (viewAt shapes places lanes indices all t) why f s w after
-      → let m : Machine = record { registers = registersIn shapes places lanes indices all } in Calculated vl action memory (reg m i) (reg m j) (reg m t) why f s w after
-  calculated-at vl action memory i j t hi hj ht why f s w after h =
+  pub calculated-at : (vl : ℕ) (task : Task) (memory : List ℕ) (i j t : ℕ) → i < 32 → j < 32 → t < 32 → (why : Why) (f s w : Register) (after : List ℕ)
+      → Calculated vl task memory (viewAt shapes places lanes indices all i) (viewAt shapes places lanes indices all j) (viewAt shapes places lanes indices all t) why f s w after
+      → let m : Machine = record { registers = registersIn shapes places lanes indices all } in Calculated vl task memory (reg m i) (reg m j) (reg m t) why f s w after
+  calculated-at vl task memory i j t hi hj ht why f s w after h =
       let m : Machine = record { registers = registersIn shapes places lanes indices all } in
-      subst (λ r. Calculated vl action memory (reg m i) (reg m j) r why f s w after) (sym (views-at shapes places lanes indices all t ht))
-      (subst (λ r. Calculated vl action memory (reg m i) r (viewAt shapes places lanes indices all t) why f s w after) (sym (views-at shapes places lanes indices all j hj))
-      (subst (λ r. Calculated vl action memory r (viewAt shapes places lanes indices all j) (viewAt shapes places lanes indices all t) why f s w after) (sym (views-at shapes places lanes indices all i hi)) h))
+      subst (λ r. Calculated vl task memory (reg m i) (reg m j) r why f s w after) (sym (views-at shapes places lanes indices all t ht))
+      (subst (λ r. Calculated vl task memory (reg m i) r (viewAt shapes places lanes indices all t) why f s w after) (sym (views-at shapes places lanes indices all j hj))
+      (subst (λ r. Calculated vl task memory r (viewAt shapes places lanes indices all j) (viewAt shapes places lanes indices all t) why f s w after) (sym (views-at shapes places lanes indices all i hi)) h))
 
 -- how many lanes an operand gives
 lanes-count : (w : ℕ) (memory : List ℕ) (o : Ahead) (xs : List (List ℤ)) (lanes : List ℕ) → (o .live ≡ true → length (listedIn o xs) ≡ o .count) → length (lanesIn w memory o xs lanes) ≡ o .count
@@ -110,10 +110,10 @@ remembers-written p before row q most plain xs o t width n f e = go (o .live) re
         let c : isOpen (q .state) ≡ false = sym (t .operates [] .told) ∙ k in
         subst (Remembers p row) (sym (rw k at e)) (λ u. never (sym c ∙ u))
 
-module _ (vl : ℕ) (same : Bool) (pa pb pd : Pattern) (a b d : Running) (va vb vd va' vb' vd' : List ℕ) (xs ys zs : List (List ℤ)) (r : Checked) (la lb ld memory : List ℕ)
-    (c : Cleared vl (length memory) same pa pb pd a b d va vb vd va' vb' vd' xs ys zs r) (ea : length la ≡ 64) (eb : length lb ≡ 64) (ed : length ld ≡ 64) (action : Action) where
+module _ (task : Task) (vl : ℕ) (same : Bool) (pa pb pd : Pattern) (a b d : Running) (va vb vd va' vb' vd' : List ℕ) (xs ys zs : List (List ℤ)) (r : Checked) (la lb ld memory : List ℕ)
+    (c : Cleared task vl (length memory) same pa pb pd a b d va vb vd va' vb' vd' xs ys zs r) (ea : length la ≡ 64) (eb : length lb ≡ 64) (ed : length ld ≡ 64) where
   -- a refused calculation
-  pub refused-so : (x : Refusal) → r .why ≡ Because x → (f s w : Register) → Calculated vl action memory (viewOf pa la va a) (viewOf pb lb vb b) (viewOf pd ld vd d) (r .why) f s w memory
+  pub refused-so : (x : Refusal) → r .why ≡ Because x → (f s w : Register) → Calculated vl task memory (viewOf pa la va a) (viewOf pb lb vb b) (viewOf pd ld vd d) (r .why) f s w memory
   refused-so x e f s w =
       let k = c .refused la lb ld memory ea eb ed refl in
       record {
@@ -121,18 +121,18 @@ module _ (vl : ℕ) (same : Bool) (pa pb pd : Pattern) (a b d : Running) (va vb 
         read = some-reason (r .why) x e;
         other = some-reason (r .why) x e;
         written = some-reason (r .why) x e;
-        stored = ap (λ y. unlessBecause y (memoryAfter vl (resultsOn vl action memory (viewOf pa la va a) (viewOf pb lb vb b)) memory (viewOf pd ld vd d)) memory) (sym e ∙ k);
+        stored = ap (λ y. unlessBecause y (memoryAfter vl (resultsOn vl task memory (viewOf pa la va a) (viewOf pb lb vb b)) memory (viewOf pd ld vd d)) memory) (sym e ∙ k);
       }
 
-  module _ (e : r .why ≡ Nothing) (fa : Fit vl pa va a) (q : Outcome) (la' lb' ld' memory' : List ℕ)
-      (k : Carries action (a .width) memory a b d (r .first) (r .second) (r .destination) xs ys zs la lb ld q la' lb' ld' memory') where
+  module _ (least : 8 ≤ vl) (e : r .why ≡ Nothing) (fa : Fit vl pa va a) (q : Outcome) (la' lb' ld' memory' : List ℕ)
+      (k : Carries task (a .width) memory a b d (r .first) (r .second) (r .destination) xs ys zs la lb ld q la' lb' ld' memory') where
     tx : Taken pa va a (vl / a .width) (a .valid) va' xs (r .first)
     tx = c .first e
 
     ty : Taken pb vb b (vl / b .width) (b .valid) vb' ys (r .second)
     ty = c .second e
 
-    tz : Taken pd vd d (r .first .count) (r .first .count) vd' zs (r .destination)
+    tz : Taken pd vd d (outcomeCount task (r .first .count)) (outcomeCount task (r .first .count)) vd' zs (r .destination)
     tz = c .destination e
 
     one : b .width ≡ a .width
@@ -144,30 +144,30 @@ module _ (vl : ℕ) (same : Bool) (pa pb pd : Pattern) (a b d : Running) (va vb 
     second-lanes : lanesIn (a .width) memory (r .second) ys lb ≡ lanesOf (viewOf pb lb vb b) (operandFrom pb lb vb' ys b (r .second)) memory
     second-lanes = ap (λ w. lanesIn w memory (r .second) ys lb) (sym one) ∙ source-lanes pb vb vb' b (vl / b .width) (b .valid) ys (r .second) ty memory lb refl
 
-    out : outcomeOf action (a .width) memory (r .first) (r .second) xs ys la lb ≡ lanesOut action memory (viewOf pa la va a) (viewOf pb lb vb b) (operandFrom pa la va' xs a (r .first)) (operandFrom pb lb vb' ys b (r .second))
-    out = ap₂ (lanewise (lane action (8 * a .width))) first-lanes second-lanes
+    out : outcomeOf task (a .width) memory (r .first) (r .second) xs ys la lb ≡ lanesOut task memory (viewOf pa la va a) (viewOf pb lb vb b) (operandFrom pa la va' xs a (r .first)) (operandFrom pb lb vb' ys b (r .second))
+    out = ap₂ (outcome task (8 * a .width)) first-lanes second-lanes
 
     -- a calculation that was carried out
-    calculated : Calculated vl action memory (viewOf pa la va a) (viewOf pb lb vb b) (viewOf pd ld vd d) (r .why) (viewOf pa la' va' (q .first)) (viewOf pb lb' vb' (q .second)) (viewOf pd ld' vd' (q .destination)) memory'
+    calculated : Calculated vl task memory (viewOf pa la va a) (viewOf pb lb vb b) (viewOf pd ld vd d) (r .why) (viewOf pa la' va' (q .first)) (viewOf pb lb' vb' (q .second)) (viewOf pd ld' vd' (q .destination)) memory'
     calculated =
         let w = c .within e in
         let x = operandFrom pa la va' xs a (r .first) in
         let y = operandFrom pb lb vb' ys b (r .second) in
         let z = operandFrom pd ld vd' zs d (r .destination) in
         let g = fa .good la ea in
-        let n : r .first .count ≡ length (outcomeOf action (a .width) memory (r .first) (r .second) xs ys la lb) =
-        sym (lanewise-length _ (lanesIn (a .width) memory (r .first) xs la) (lanesIn (a .width) memory (r .second) ys lb)
+        let n : outcomeCount task (r .first .count) ≡ length (outcomeOf task (a .width) memory (r .first) (r .second) xs ys la lb) =
+        sym (outcome-length task _ (lanesIn (a .width) memory (r .first) xs la) (lanesIn (a .width) memory (r .second) ys lb)
         (lanes-count (a .width) memory (r .first) xs la (w .firstLong) ∙ sym (w .counts) ∙ sym (lanes-count (a .width) memory (r .second) ys lb (w .secondLong)))
-        ∙ lanes-count (a .width) memory (r .first) xs la (w .firstLong)) in
-        carried vl memory (viewOf pa la va a) (viewOf pb lb vb b) (viewOf pd ld vd d) g x y z (tx .operates la) (ty .operates lb) (tz .operates ld)
-        (c .widths e .1) (sym (w .counts)) (λ t. w .fills (tz .operates ld .told ∙ t)) (sym (c .refused la lb ld memory ea eb ed refl) ∙ e) action (r .why) _ _ _ memory'
+        ∙ ap (outcomeCount task) (lanes-count (a .width) memory (r .first) xs la (w .firstLong))) in
+        carried task vl least memory (viewOf pa la va a) (viewOf pb lb vb b) (viewOf pd ld vd d) g x y z (tx .operates la) (ty .operates lb) (tz .operates ld)
+        (c .widths e .1) (sym (w .counts)) (λ t. w .fills (tz .operates ld .told ∙ t)) (sym (c .refused la lb ld memory ea eb ed refl) ∙ e) (r .why) _ _ _ memory'
         (record {
           done = e;
           read = source-shown pa va va' a (vl / a .width) (a .valid) xs (r .first) tx memory la refl (q .first) la' (k .read) (k .chunk);
           other = source-shown pb vb vb' b (vl / b .width) (b .valid) ys (r .second) ty memory lb refl (q .second) lb'
               (k .other ∙ ap (λ j. cond (r .second .live) (filledWith j (r .second .count) (afterwards (r .second) b)) (afterwards (r .second) b)) (sym one))
               (k .otherChunk ∙ ap (λ j. cond (r .second .live) (packed j (lanesIn j memory (r .second) ys lb)) lb) (sym one));
-          written = target-shown pd vd vd' d (r .first .count) (r .first .count) zs (r .destination) tz ld (a .width) (r .first .count) _ n (q .destination) ld' (k .written) (k .content)
+          written = target-shown pd vd vd' d (outcomeCount task (r .first .count)) (outcomeCount task (r .first .count)) zs (r .destination) tz ld (a .width) (outcomeCount task (r .first .count)) _ n (q .destination) ld' (k .written) (k .content)
               ∙ ap (λ l. cond (r .destination .live) (viewOf pd ld vd' (afterwards (r .destination) d)) (holding (a .width) l (viewOf pd ld vd d))) out;
           stored = k .stored ∙ ap (λ l. cond (r .destination .live) (storedAt memory (a .width) (listedIn (r .destination) zs) l) memory) out
               ∙ stored-width (r .destination .live) memory (a .width) (d .width) _ _ (λ t. sym (c .widths e .1 (sym (tz .operates ld .told) ∙ t)));
@@ -181,10 +181,10 @@ module _ (vl : ℕ) (same : Bool) (pa pb pd : Pattern) (a b d : Running) (va vb 
     remember-second = remembers-filled pb vb' (r .second .live) (a .width) (r .second .count) (afterwards (r .second) b) (q .second) (after-width b (r .second) ∙ one) (ty .remembers) (k .other)
 
     remember-third : Remembers pd vd' (q .destination)
-    remember-third = remembers-written pd vd vd' d (r .first .count) (r .first .count) zs (r .destination) tz (a .width) (r .first .count) (q .destination) (k .written)
+    remember-third = remembers-written pd vd vd' d (outcomeCount task (r .first .count)) (outcomeCount task (r .first .count)) zs (r .destination) tz (a .width) (outcomeCount task (r .first .count)) (q .destination) (k .written)
 
     -- the calculation, and what the three registers remember after it
-    pub round : Calculated vl action memory (viewOf pa la va a) (viewOf pb lb vb b) (viewOf pd ld vd d) (r .why) (viewOf pa la' va' (q .first)) (viewOf pb lb' vb' (q .second)) (viewOf pd ld' vd' (q .destination)) memory'
+    pub round : Calculated vl task memory (viewOf pa la va a) (viewOf pb lb vb b) (viewOf pd ld vd d) (r .why) (viewOf pa la' va' (q .first)) (viewOf pb lb' vb' (q .second)) (viewOf pd ld' vd' (q .destination)) memory'
         × (Remembers pa va' (q .first) × (Remembers pb vb' (q .second) × Remembers pd vd' (q .destination)))
     round = (calculated, (remember-first, (remember-second, remember-third)))
 

@@ -5,7 +5,7 @@
 --   Opens, Extends, Modifies, Ends    when each configuring operation is accepted
 --   Accepts                           any of them
 --   Lies, AllLie, OpenLie             elements inside memory
---   Source, Destination, Calculates   when a calculation is
+--   Source, Destination, SomeLanes, Calculates   when a calculation is
 use Prim.Native.Nat.{ℕ, suc, _+_, _%_, _≤_, _<_}
 use mathlib.Core.Path.{_≡_}
 use mathlib.Core.List.{List, [], map}
@@ -15,11 +15,15 @@ use lib.Signed.{_≤ℤ_}
 use Rattle.codec.specs.declared.header.Kind.the-variants.{Load, Store}
 use Rattle.codec.specs.declared.operation.Operation.{Operation}
 use Rattle.codec.specs.declared.operation.Operation.the-variants as op
+use Rattle.codec.specs.declared.operation.Fold.the-variants.{Sum, Smallest, Largest, FirstLargest}
+use Rattle.codec.specs.declared.operation.Task.{Task}
+use Rattle.codec.specs.declared.operation.Task.the-variants.{Each, All}
 use Rattle.codec.specs.declared.operation.Calculation.{Calculation}
 use Rattle.engine.specs.Rules.{lastIndex, highAt, lowAt, highsOf, product}
 use Rattle.engine.specs.Addresses.{address}
 use Rattle.engine.specs.Registers.{shapeOf, nextChunk, reg}
 use Rattle.engine.specs.Configure.{Covers}
+use Rattle.engine.specs.Lanes.{outcomeCount}
 use Rattle.engine.specs.Calculate.{World, given}
 use Rattle.engine.specs.declared.stream.Shape.{Shape}
 use Rattle.engine.specs.declared.stream.Pattern.{Pattern}
@@ -105,23 +109,32 @@ pub data Destination (r : Register) : Type 0 where
   plain : r .state ≡ Plain → Destination r
   store : r .state ≡ Open → r .kind ≡ Store → Destination r
 
--- when a calculation is accepted: on first source a, second source b, destination d, with n lanes of a and m of b
-pub record CalculatesOn (vl len n m : ℕ) (a b d : Register) : Type 0 where
+-- 02, 2/14: the smallest, the largest and the first largest are of one lane at least; a sum, or an operation lane by lane, of any number
+abbrev pub SomeLanes : Task → ℕ → Type 0
+SomeLanes (Each action) n = Unit {0}
+SomeLanes (All Sum) n = Unit {0}
+SomeLanes (All Smallest) n = 1 ≤ n
+SomeLanes (All Largest) n = 1 ≤ n
+SomeLanes (All FirstLargest) n = 1 ≤ n
+
+-- when a calculation is accepted: of what it does, on first source a, second source b, destination d, with n lanes of a and m of b
+pub record CalculatesOn (t : Task) (vl len n m : ℕ) (a b d : Register) : Type 0 where
   pub first : Source a
   pub second : Source b
   pub destination : Destination d
   pub widths : a .width ≡ b .width
   pub width : d .state ≡ Open → a .width ≡ d .width
   pub lanes : n ≡ m
-  pub room : d .state ≡ Open → n ≤ length (nextChunk vl d)
+  pub room : d .state ≡ Open → outcomeCount t n ≤ length (nextChunk vl d)
+  pub some : SomeLanes t n
   pub first-inside : OpenLie len a (nextChunk vl a)
   pub second-inside : OpenLie len b (nextChunk vl b)
-  pub destination-inside : OpenLie len d (take n (nextChunk vl d))
+  pub destination-inside : OpenLie len d (take (outcomeCount t n) (nextChunk vl d))
 
 -- when a calculation is accepted in a world: on the registers that it names
 abbrev pub Calculates : ℕ → Calculation → World → Type 0
 Calculates vl c w =
-    CalculatesOn vl (length (w .memory))
+    CalculatesOn (c .task) vl (length (w .memory))
     (length (given vl (w .memory) (reg (w .machine) (c .first))))
     (length (given vl (w .memory) (reg (w .machine) (c .second))))
     (reg (w .machine) (c .first))

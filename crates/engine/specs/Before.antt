@@ -2,7 +2,7 @@
 -- same numbers at the same places, with the same counts, registers and memory.
 --
 --   Numbered, numberedFirst        01's checks by their numbers alone
---   numbersOn, numberBefore        the number that 01 alone gives a calculation
+--   numbersOn, numberBefore        the number that 01 and 02, 2/14, alone give a calculation
 --   numberOfWhy, number-before     it is the number of the refusal
 --   Plainly, plainly, told-plainly   an answer, its two numbers forgotten
 --   as-before                      whatever says why a calculation is refused, as long as it gives 01's number: the answers are the same
@@ -14,10 +14,13 @@ use native.Mathlib.Omega.{arith}
 use lib.ListN.{length, take}
 use lib.Dec.{eqb, ltb}
 use Rattle.codec.specs.Refusals.{numberOf}
+use Rattle.codec.specs.declared.operation.Task.{Task}
+use Rattle.codec.specs.declared.operation.Task.the-variants.{Each, All}
 use Rattle.codec.specs.declared.operation.Calculation.{Calculation}
 use Rattle.codec.specs.declared.refusal.Refusal.{Refusal}
-use Rattle.codec.specs.declared.refusal.Refusal.the-variants.{BadNumber, OutOfRange, FixedBits, NotCarried, WrongState, TooMany, Misplaced, LowHigh, Product, WrongKind, StreamEnded, Widths, LaneCounts, Outside, Lengths, LoopRegister, NoRoom}
+use Rattle.codec.specs.declared.refusal.Refusal.the-variants.{BadNumber, OutOfRange, FixedBits, NotCarried, WrongState, TooMany, Misplaced, LowHigh, Product, WrongKind, StreamEnded, Widths, LaneCounts, Outside, Lengths, LoopRegister, NoRoom, NoLanes}
 use Rattle.codec.specs.TestLaws.{never, never-true}
+use Rattle.engine.specs.Lanes.{wantsLanes}
 use Rattle.engine.specs.Checks.{Check, firstOf}
 use Rattle.engine.specs.Registers.{isConfiguring, isOpen, isFinished, openLoad, openStore, nextChunk, toCome, reg}
 use Rattle.engine.specs.Calculate.{World, outside, checksOn, onNamed, refusalOf, effect}
@@ -53,22 +56,36 @@ numberedFirst (c ∷ cs) = cond (c .applies) (c .number) (numberedFirst cs)
 abbrev pub numbersOf : Register → Bool → List Numbered
 numbersOf r wrong = 5 when isConfiguring (r .state) ∷ 11 when isFinished (r .state) ∷ 10 when wrong ∷ []
 
--- "a calculation looks at first source, second source, destination in turn (5, 11, 10), then 12, 13, and 14 in that turn"
-abbrev pub numbersOn : ℕ → ℕ → ℕ → ℕ → Register → Register → Register → List Numbered
-numbersOn vl len n m a b d =
+-- "a calculation looks at first source, second source, destination in turn (5, 11, 10), then 12, .."
+abbrev pub numbersToWidths : Register → Register → Register → List Numbered
+numbersToWidths a b d =
     numbersOf a (openStore a)
     ++ numbersOf b (openStore b)
     ++ numbersOf d (openLoad d)
     ++ 12 when (not (eqb (a .width) (b .width)) || openStore d && not (eqb (a .width) (d .width)))
-    ∷ 13 when (not (eqb n m) || openStore d && ltb (length (nextChunk vl d)) n)
+    ∷ []
+
+-- ".. 13, and 14 in that turn": of 01's calculations; of 02's the destination takes one lane, and 18 stands between
+abbrev pub numbersOn : Task → ℕ → ℕ → ℕ → ℕ → Register → Register → Register → List Numbered
+numbersOn (Each action) vl len n m a b d =
+    numbersToWidths a b d
+    ++ 13 when (not (eqb n m) || openStore d && ltb (length (nextChunk vl d)) n)
     ∷ 14 when outside len a (nextChunk vl a)
     ∷ 14 when outside len b (nextChunk vl b)
     ∷ 14 when outside len d (take n (nextChunk vl d))
     ∷ []
+numbersOn (All fold) vl len n m a b d =
+    numbersToWidths a b d
+    ++ 13 when (not (eqb n m) || openStore d && ltb (length (nextChunk vl d)) 1)
+    ∷ 18 when (wantsLanes (All fold) && eqb n 0)
+    ∷ 14 when outside len a (nextChunk vl a)
+    ∷ 14 when outside len b (nextChunk vl b)
+    ∷ 14 when outside len d (take 1 (nextChunk vl d))
+    ∷ []
 
--- the number of a calculation's refusal by 01 alone, 0 if it is not refused
+-- the number of a calculation's refusal by these alone, 0 if it is not refused
 unfoldable pub numberBefore : ℕ → Calculation → World → ℕ
-numberBefore vl c w = numberedFirst (onNamed numbersOn vl c w)
+numberBefore vl c w = numberedFirst (onNamed (numbersOn (c .task)) vl c w)
 
 -- the number of a refusal, 0 if there is none
 abbrev pub numberOfWhy : Why → ℕ
@@ -90,10 +107,16 @@ first-number (c ∷ cs) = go (c .applies) (first-number cs)
     go true e = refl
     go false e = e
 
--- a calculation is refused with the number that 01 alone gives it
+-- the checks by their numbers are these
+checks-numbered : (t : Task) (vl len n m : ℕ) (a b d : Register) → numberOfWhy (firstOf (checksOn t vl len n m a b d)) ≡ numberedFirst (numbersOn t vl len n m a b d)
+unfolding numberedFirst
+checks-numbered (Each action) vl len n m a b d = first-number (checksOn (Each action) vl len n m a b d)
+checks-numbered (All fold) vl len n m a b d = first-number (checksOn (All fold) vl len n m a b d)
+
+-- a calculation is refused with the number that these alone give it
 pub number-before : (vl : ℕ) (c : Calculation) (w : World) → numberOfWhy (refusalOf vl c w) ≡ numberBefore vl c w
 unfolding refusalOf numberBefore
-number-before vl c w = first-number (onNamed checksOn vl c w)
+number-before vl c w = checks-numbered (c .task) _ _ _ _ _ _ _
 
 -- ---- answers
 
@@ -131,6 +154,7 @@ some-number (Outside lane role) = omega arith
 some-number Lengths = omega arith
 some-number LoopRegister = omega arith
 some-number NoRoom = omega arith
+some-number NoLanes = omega arith
 
 -- what follows is alike if both alternatives are
 follows : (v w : Verdict) → numberGiven v ≡ numberGiven w → (g h j k : Progress) → plainly g ≡ plainly h → plainly j ≡ plainly k

@@ -20,6 +20,7 @@ use Rattle.codec.specs.TestLaws.{never}
 use Rattle.codec.specs.Refusals.{numberOf, roleNumber, rolled, one-role}
 use Rattle.codec.specs.Operations.{calculationAt}
 use Rattle.codec.specs.declared.number.Cursor.{Cursor}
+use Rattle.codec.specs.declared.operation.Task.{Task}
 use Rattle.codec.specs.declared.operation.Calculation.{Calculation}
 use Rattle.codec.specs.declared.operation.Body.the-variants as body
 use Rattle.codec.specs.declared.refusal.Role.{Role}
@@ -28,6 +29,7 @@ use Rattle.codec.specs.declared.refusal.Refusal.{Refusal}
 use Rattle.codec.specs.declared.refusal.Refusal.the-variants.{Outside}
 use Rattle.engine.specs.Addresses.{address}
 use Rattle.engine.specs.Registers.{nextChunk, reg, freshMachine}
+use Rattle.engine.specs.Lanes.{outcomeCount}
 use Rattle.engine.specs.Calculate.{World, given, refusalOf}
 use Rattle.engine.specs.Sheets.{prepare, run}
 use Rattle.engine.specs.Outlines.{elementOf}
@@ -88,17 +90,19 @@ module _ (vl len n : ℕ) (a b d : Register) (lane : ℕ) (role : Role) where
   one (WantedInside.lacking e f h) = subst (Blamed vl len n a b d lane) (sym (role-is role 0 f)) (Blamed.first h)
   one (WantedInside.later p l) = other p l
 
-  -- a calculation refused with 14, on its registers
-  pub blamed-on : (m : ℕ) → CalculationRefusedOn vl len n m a b d (Outside lane role) → Blamed vl len n a b d lane role
-  blamed-on m w =
-      let s = past-destination d lane role (past-source b lane role (past-source a lane role w)) in
-      one (past (Outside lane role) 13 refl (past (Outside lane role) 12 refl s .1) .1)
+-- a calculation refused with 14, on its registers
+pub blamed-on : (t : Task) (vl len n m : ℕ) (a b d : Register) (lane : ℕ) (role : Role) → CalculationRefusedOn t vl len n m a b d (Outside lane role)
+    → Blamed vl len (outcomeCount t n) a b d lane role
+blamed-on t vl len n m a b d lane role w =
+    let s = past-destination d lane role (past-source b lane role (past-source a lane role w)) in
+    one vl len (outcomeCount t n) a b d lane role
+    (past (Outside lane role) 18 refl (past (Outside lane role) 13 refl (past (Outside lane role) 12 refl s .1) .1) .1)
 
 -- a calculation refused with 14, in a world
 pub blamed : (vl : ℕ) (c : Calculation) (w : World) (lane : ℕ) (role : Role) → refusalOf vl c w ≡ Because (Outside lane role)
-    → Blamed vl (length (w .memory)) (length (given vl (w .memory) (reg (w .machine) (c .first))))
+    → Blamed vl (length (w .memory)) (outcomeCount (c .task) (length (given vl (w .memory) (reg (w .machine) (c .first)))))
     (reg (w .machine) (c .first)) (reg (w .machine) (c .second)) (reg (w .machine) (c .destination)) lane role
-blamed vl c w lane role e = blamed-on vl _ _ _ _ _ lane role _ (calculation-refused vl c w (Outside lane role) .0 e)
+blamed vl c w lane role e = blamed-on (c .task) vl _ _ _ _ _ _ lane role (calculation-refused vl c w (Outside lane role) .0 e)
 
 -- the second source is not blamed for what the first lies inside
 not-second : (vl len n : ℕ) (a b d : Register) (lane : ℕ) (r : Role) → b ≡ a → Blamed vl len n a b d lane r → r ≡ role.Second → ⊥
@@ -112,7 +116,7 @@ pub twice-first : (vl : ℕ) (c : Calculation) (w : World) (lane : ℕ) (r : Rol
     → r ≡ role.Second → ⊥
 twice-first vl c w lane r e f = not-second vl _ _ _ _ _ lane r (ap (reg (w .machine)) e) (blamed vl c w lane r f)
 
--- "lanes behind n of a store are never blamed": of a calculation with n lanes
+-- "lanes behind n of a store are never blamed": of a calculation whose destination takes n lanes
 pub lane-written : (vl len n : ℕ) (a b d : Register) (lane : ℕ) → Blamed vl len n a b d lane role.Destination → lane < n
 lane-written vl len n a b d lane (Blamed.destination p q f) = omega (arith, f .moves, length-take n (nextChunk vl d))
 

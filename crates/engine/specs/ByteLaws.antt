@@ -7,13 +7,15 @@
 --   little-value                    the bytes of bytes' number
 --   value-small                     w bytes are a number below 2^(8w)
 --   value-stored                    a number that was stored is there
+--   value-sets                      a number apart from what was written is as it was
 use Prim.Native.Nat.{ℕ, zero, suc, _+_, _*_, _/_, _%_, _^_, _≤_, _<_}
 use mathlib.Core.Path.{_≡_, refl, sym, _∙_, ap}
+use mathlib.Core.Logic.{_⊎_, inl, inr, ⊎-elim}
 use mathlib.Core.List.{List, [], _∷_, _++_, append-assoc}
 use native.Mathlib.Omega.{arith}
 use native.Mathlib.Nat.{mod-eq-of-lt}
-use lib.ListN.{length, getD, take, drop}
-use lib.Seq.{drop-cons, drop-at, length-take-le, sets, sets-eq}
+use lib.ListN.{length, getD, take, drop, set}
+use lib.Seq.{drop-cons, drop-at, length-take-le, sets, sets-eq, getD-set-other}
 use lib.Pow.{pow-add, mod-pow-add}
 use Rattle.engine.specs.Memory.{valueAt, littleEndian}
 
@@ -98,3 +100,20 @@ value-stored memory k w x h =
     ∙ ap (λ m. valueAt (drop k m) 0 w) e
     ∙ ap (λ m. valueAt m 0 w) (drop-at (take k memory) (littleEndian w x ++ drop (k + length (littleEndian w x)) memory) k (length-take-le k memory (omega arith)))
     ∙ value-little w x (drop (k + length (littleEndian w x)) memory)
+
+-- a byte apart from what was written
+getD-sets : (bytes memory : List ℕ) (j i : ℕ) → (i < j) ⊎ (j + length bytes ≤ i) → getD (sets memory j bytes) i 0 ≡ getD memory i 0
+getD-sets [] memory j i h = refl
+getD-sets (x ∷ bytes) memory j i h =
+    getD-sets bytes (set memory j x) (suc j) i (⊎-elim (λ p. inl (omega arith)) (λ p. inr (omega arith)) h)
+    ∙ getD-set-other memory j i x 0 (⊎-elim (λ p e. omega arith) (λ p e. omega arith) h)
+
+-- a number apart from it
+pub value-sets : (w k : ℕ) (bytes memory : List ℕ) (j : ℕ) → (k + w ≤ j) ⊎ (j + length bytes ≤ k) → valueAt (sets memory j bytes) k w ≡ valueAt memory k w
+unfolding valueAt
+value-sets zero k bytes memory j h = refl
+value-sets (suc w) k bytes memory j h =
+    rw (
+      getD-sets bytes memory j k (⊎-elim (λ p. inl (omega arith)) (λ p. inr (omega arith)) h),
+      value-sets w (suc k) bytes memory j (⊎-elim (λ p. inl (omega arith)) (λ p. inr (omega arith)) h),
+    )

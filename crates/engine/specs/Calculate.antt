@@ -10,13 +10,14 @@ use mathlib.Core.List.{List, [], _∷_, _++_, map}
 use mathlib.Core.Bool.{Bool, true, cond, not, _&&_, _||_}
 use lib.ListN.{length, take}
 use lib.Dec.{eqb, ltb}
+use Rattle.codec.specs.declared.operation.Task.{Task}
 use Rattle.codec.specs.declared.operation.Calculation.{Calculation}
 use Rattle.codec.specs.declared.refusal.Role.{Role}
 use Rattle.codec.specs.declared.refusal.Role.the-variants as role
-use Rattle.codec.specs.declared.refusal.Refusal.the-variants.{WrongState, StreamEnded, WrongKind, Widths, LaneCounts, Outside}
+use Rattle.codec.specs.declared.refusal.Refusal.the-variants.{WrongState, StreamEnded, WrongKind, Widths, LaneCounts, NoLanes, Outside}
 use Rattle.engine.specs.Addresses.{address, inside}
 use Rattle.engine.specs.Memory.{fetch, stored, contents, holding}
-use Rattle.engine.specs.Lanes.{lane, lanewise}
+use Rattle.engine.specs.Lanes.{outcome, outcomeCount, wantsLanes}
 use Rattle.engine.specs.Checks.{Check, _if_, firstOf}
 use Rattle.engine.specs.Registers.{isConfiguring, isOpen, isFinished, openLoad, openStore, nextChunk, movedBy, reg, put}
 use Rattle.engine.specs.declared.check.Why.{Why}
@@ -36,8 +37,7 @@ given vl memory r = cond (isOpen (r .state)) (map (fetch (r .pattern) (r .width)
 -- the calculation's lanes, from those of its sources
 unfoldable pub results : ℕ → Calculation → World → List ℕ
 results vl c w =
-    lanewise
-    (lane (c .action) (8 * reg (w .machine) (c .first) .width))
+    outcome (c .task) (8 * reg (w .machine) (c .first) .width)
     (given vl (w .memory) (reg (w .machine) (c .first)))
     (given vl (w .memory) (reg (w .machine) (c .second)))
 
@@ -67,18 +67,20 @@ destinationChecks r = WrongState if isConfiguring (r .state) ∷ StreamEnded if 
 abbrev pub insideCheck : Role → ℕ → Register → List (List ℕ) → Check
 insideCheck role len r vs = Outside (laneOutside (r .pattern) (r .width) len vs) role if outside len r vs
 
--- "a calculation looks at first source, second source, destination in turn (5, 11, 10), then 12, 13, and 14 in that turn": on first
--- source a, second source b, destination d, with n lanes of a and m of b
-abbrev pub checksOn : ℕ → ℕ → ℕ → ℕ → Register → Register → Register → List Check
-checksOn vl len n m a b d =
+-- "a calculation looks at first source, second source, destination in turn (5, 11, 10), then 12, 13, and 14 in that turn"; 02, 2/14: "18, no
+-- lanes for smallest, largest or first largest, after 13 and before 14": of what it does, on first source a, second source b, destination d,
+-- with n lanes of a and m of b
+abbrev pub checksOn : Task → ℕ → ℕ → ℕ → ℕ → Register → Register → Register → List Check
+checksOn t vl len n m a b d =
     sourceChecks a
     ++ sourceChecks b
     ++ destinationChecks d
     ++ Widths if (not (eqb (a .width) (b .width)) || openStore d && not (eqb (a .width) (d .width)))
-    ∷ LaneCounts if (not (eqb n m) || openStore d && ltb (length (nextChunk vl d)) n)
+    ∷ LaneCounts if (not (eqb n m) || openStore d && ltb (length (nextChunk vl d)) (outcomeCount t n))
+    ∷ NoLanes if (wantsLanes t && eqb n 0)
     ∷ insideCheck role.First len a (nextChunk vl a)
     ∷ insideCheck role.Second len b (nextChunk vl b)
-    ∷ insideCheck role.Destination len d (take n (nextChunk vl d))
+    ∷ insideCheck role.Destination len d (take (outcomeCount t n) (nextChunk vl d))
     ∷ []
 
 -- of a calculation in a world: the memory's length, how many lanes its sources have, and the registers that it names
@@ -93,7 +95,7 @@ onNamed f vl c w =
 
 -- why a calculation is refused, if it is: the first of its checks that applies
 unfoldable pub refusalOf : ℕ → Calculation → World → Why
-refusalOf vl c w = firstOf (onNamed checksOn vl c w)
+refusalOf vl c w = firstOf (onNamed (checksOn (c .task)) vl c w)
 
 -- a source after it: an open stream moved on by its chunk, which is now the register's content
 unfoldable pub readFrom : ℕ → List ℕ → Register → Register

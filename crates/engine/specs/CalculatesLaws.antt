@@ -2,8 +2,9 @@
 --
 --   inside-lies, outside-lie                 elements inside memory
 --   source-clear, destination-clear, store-clear   a source, a destination, a destination that is open
+--   some-clear                               18
 --   calculates-passed, passed-calculates, calculates-clear   a calculation
-use Prim.Native.Nat.{ℕ, zero, suc, _+_}
+use Prim.Native.Nat.{ℕ, zero, suc, _+_, _≤_}
 use mathlib.Core.Path.{_≡_, refl, sym, _∙_, ap}
 use mathlib.Core.Logic.{_↔_}
 use mathlib.Core.List.{List, [], _∷_}
@@ -12,16 +13,20 @@ use native.Mathlib.Omega.{arith}
 use lib.ListN.{take}
 use lib.Dec.{leb, eqb}
 use lib.IntN.{ℤ, pos, negsuc}
-use borrow.Author.Tests.{ltb-false, le-ltb, eqb-true, eq-eqb, not-false}
+use borrow.Author.Tests.{ltb-false, le-ltb, eqb-true, eqb-false, eq-eqb, ne-eqb, not-false}
 use Rattle.codec.specs.TestLaws.{never, never-true, or-false, and-false, both, and-right, and-both}
 use Rattle.codec.specs.declared.header.Kind.{Kind}
 use Rattle.codec.specs.declared.header.Kind.the-variants.{Load, Store}
+use Rattle.codec.specs.declared.operation.Fold.the-variants.{Sum, Smallest, Largest, FirstLargest}
+use Rattle.codec.specs.declared.operation.Task.{Task}
+use Rattle.codec.specs.declared.operation.Task.the-variants.{Each, All}
 use Rattle.codec.specs.declared.operation.Calculation.{Calculation}
 use Rattle.engine.specs.Addresses.{address, inside}
+use Rattle.engine.specs.Lanes.{outcomeCount, wantsLanes}
 use Rattle.engine.specs.Registers.{isConfiguring, isOpen, isFinished, isLoad, openLoad, openStore, nextChunk}
 use Rattle.engine.specs.Calculate.{World, allInside, outside, refusalOf}
 use Rattle.engine.specs.CalculationLaws.{ChecksPassed, checked, not-refused}
-use Rattle.engine.specs.Allowed.{Lies, AllLie, OpenLie, Source, Destination, CalculatesOn, Calculates}
+use Rattle.engine.specs.Allowed.{Lies, AllLie, OpenLie, Source, Destination, SomeLanes, CalculatesOn, Calculates}
 use Rattle.engine.specs.declared.check.Why.the-variants.{Nothing}
 use Rattle.engine.specs.declared.stream.Pattern.{Pattern}
 use Rattle.engine.specs.declared.register.State.{State}
@@ -103,9 +108,21 @@ store-clear d b (Destination.store p q) =
     let t : openStore d ≡ true = λ i. isOpen (p i) && not (isLoad (q i)) in
     (λ e o. and-false (openStore d) b e t, λ h. and-right (openStore d) b (h p))
 
-module _ (vl len n m : ℕ) (a b d : Register) where
+-- lanes where there are some
+no-lanes : (n : ℕ) → (eqb n 0 ≡ false) ↔ (1 ≤ n)
+no-lanes n = (λ e. let k : n ≡ 0 → ⊥ = eqb-false n 0 e in omega arith, λ h. ne-eqb n 0 (λ e. omega arith))
+
+-- what wants lanes has some
+pub some-clear : (t : Task) (n : ℕ) → ((wantsLanes t && eqb n 0) ≡ false) ↔ SomeLanes t n
+some-clear (Each action) n = (λ e. tt, λ h. refl)
+some-clear (All Sum) n = (λ e. tt, λ h. refl)
+some-clear (All Smallest) n = no-lanes n
+some-clear (All Largest) n = no-lanes n
+some-clear (All FirstLargest) n = no-lanes n
+
+module _ (t : Task) (vl len n m : ℕ) (a b d : Register) where
   -- a calculation that passes its checks
-  pub calculates-passed : ChecksPassed vl len n m a b d → CalculatesOn vl len n m a b d
+  pub calculates-passed : ChecksPassed t vl len n m a b d → CalculatesOn t vl len n m a b d
   calculates-passed p =
       let s : Destination d = destination-clear d .0 (p .destination-state, p .destination-ended, p .destination-kind) in
       let w = or-false (not (eqb (a .width) (b .width))) _ (p .widths) in
@@ -118,13 +135,14 @@ module _ (vl len n m : ℕ) (a b d : Register) where
         width = λ o. eqb-true _ _ (not-false _ (store-clear d _ s .0 (w .1) o));
         lanes = eqb-true _ _ (not-false _ (l .0));
         room = λ o. ltb-false _ _ (store-clear d _ s .0 (l .1) o);
+        some = some-clear t n .0 (p .some);
         first-inside = outside-lie len a (nextChunk vl a) .0 (p .first-inside);
         second-inside = outside-lie len b (nextChunk vl b) .0 (p .second-inside);
-        destination-inside = outside-lie len d (take n (nextChunk vl d)) .0 (p .destination-inside);
+        destination-inside = outside-lie len d (take (outcomeCount t n) (nextChunk vl d)) .0 (p .destination-inside);
       }
 
   -- and the reverse
-  pub passed-calculates : CalculatesOn vl len n m a b d → ChecksPassed vl len n m a b d
+  pub passed-calculates : CalculatesOn t vl len n m a b d → ChecksPassed t vl len n m a b d
   passed-calculates c =
       let f = source-clear a .1 (c .first) in
       let g = source-clear b .1 (c .second) in
@@ -141,12 +159,13 @@ module _ (vl len n m : ℕ) (a b d : Register) where
         destination-kind = s .2;
         widths = neither _ _ (ap not (eq-eqb _ _ (c .widths))) (store-clear d _ (c .destination) .1 (λ o. ap not (eq-eqb _ _ (c .width o))));
         counts = neither _ _ (ap not (eq-eqb _ _ (c .lanes))) (store-clear d _ (c .destination) .1 (λ o. le-ltb _ _ (c .room o)));
+        some = some-clear t n .1 (c .some);
         first-inside = outside-lie len a (nextChunk vl a) .1 (c .first-inside);
         second-inside = outside-lie len b (nextChunk vl b) .1 (c .second-inside);
-        destination-inside = outside-lie len d (take n (nextChunk vl d)) .1 (c .destination-inside);
+        destination-inside = outside-lie len d (take (outcomeCount t n) (nextChunk vl d)) .1 (c .destination-inside);
       }
 
 -- not refused exactly if the plain conditions hold
 pub calculates-clear : (vl : ℕ) (c : Calculation) (w : World) → (refusalOf vl c w ≡ Nothing) ↔ Calculates vl c w
 calculates-clear vl c w =
-    (λ e. calculates-passed _ _ _ _ _ _ _ (checked vl c w e), λ h. not-refused vl c w (passed-calculates _ _ _ _ _ _ _ h))
+    (λ e. calculates-passed _ _ _ _ _ _ _ _ (checked vl c w e), λ h. not-refused vl c w (passed-calculates _ _ _ _ _ _ _ _ h))

@@ -12,7 +12,7 @@ use lib.ListN.{length}
 use lib.Seq.{ext-getD}
 use Rattle.codec.specs.declared.operation.Calculation.{Calculation}
 use Rattle.engine.specs.Memory.{fetch}
-use Rattle.engine.specs.Lanes.{lane, lanewise}
+use Rattle.engine.specs.Lanes.{outcome}
 use Rattle.engine.specs.Registers.{isOpen, shapeOf, nextChunk, noRegister, reg}
 use Rattle.engine.specs.Calculate.{World, given, results, refusalOf, effect}
 use Rattle.engine.specs.Allowed.{Source, Destination}
@@ -151,7 +151,7 @@ module _ (vl : ℕ) (c : Calculation) (w : World) (g : AllGood vl (w .machine)) 
     unfolding results
     out-one =
         d .calculated
-        ∙ ap₂ (lanewise (lane (c .action) (8 * at (c .first) .width))) (gives-one not-refused (c .first) (nm .first) _ _ (d .gives-first))
+        ∙ ap₂ (outcome (c .task) (8 * at (c .first) .width)) (gives-one not-refused (c .first) (nm .first) _ _ (d .gives-first))
         (gives-one not-refused (c .second) (nm .second) _ _ (d .gives-second))
 
     -- so is each register, and what it moves

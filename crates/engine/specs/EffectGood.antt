@@ -1,6 +1,7 @@
 -- Registers stay good.
 --
 --   holding-good, read-good, written-good      a good register with other lanes; read; written
+--   outcome-fits                               the lanes that a destination takes
 --   effect-good                                all registers after a calculation
 use Prim.Native.Nat.{ℕ, _+_, _*_, _≤_, _<_}
 use mathlib.Core.Path.{_≡_, refl, sym, _∙_, subst}
@@ -10,6 +11,8 @@ use native.Mathlib.Omega.{arith}
 use lib.ListN.{length, replicate, length-take, length-append}
 use lib.Dec.{eqb}
 use borrow.Author.Tests.{eqb-true}
+use Rattle.codec.specs.declared.operation.Task.{Task}
+use Rattle.codec.specs.declared.operation.Task.the-variants.{Each, All}
 use Rattle.codec.specs.declared.operation.Calculation.{Calculation}
 use Rattle.engine.specs.Memory.{joined, packed, holding}
 use Rattle.engine.specs.Registers.{isOpen, nextChunk, movedBy, reg}
@@ -19,6 +22,8 @@ use Rattle.engine.specs.GoodLaws.{moved-good}
 use Rattle.engine.specs.ComeLaws.{next-within}
 use Rattle.engine.specs.CalculationLaws.{Named}
 use Rattle.engine.specs.EffectLaws.{effect-reg, effect-length, read-open, read-shut, written-open, written-shut, given-fits, results-length, room}
+use Rattle.engine.specs.Lanes.{outcomeCount}
+use Rattle.engine.specs.LaneLaws.{width-range}
 use Rattle.engine.specs.declared.check.Why.the-variants.{Nothing}
 use Rattle.engine.specs.declared.register.Register.{Register}
 
@@ -70,9 +75,14 @@ written-good vl width xs r g i h k = go (isOpen (r .state)) refl
         (moved-good vl r g (g .opened e .0 .accepted) (r .moved + length xs) (omega (arith, k e, next-within vl r g e)))
     go false e = subst (Good vl) (sym (written-shut width xs r e)) (holding-good vl width xs r g i h)
 
+-- the lanes that the destination takes fit the vector length, if those of a source do
+pub outcome-fits : (t : Task) (vl n width : ℕ) → 8 ≤ vl → IsWidth width → n * width ≤ vl → outcomeCount t n * width ≤ vl
+outcome-fits (Each action) vl n width l i h = h
+outcome-fits (All fold) vl n width l i h = omega (arith, width-range width i)
+
 -- all registers stay good
-pub effect-good : (vl : ℕ) (c : Calculation) (w : World) → AllGood vl (w .machine) → Named c → refusalOf vl c w ≡ Nothing → AllGood vl (effect vl c w .machine)
-effect-good vl c w g nm e = record { all = effect-length vl c w ∙ g .all; good = each }
+pub effect-good : (vl : ℕ) (c : Calculation) (w : World) → 8 ≤ vl → AllGood vl (w .machine) → Named c → refusalOf vl c w ≡ Nothing → AllGood vl (effect vl c w .machine)
+effect-good vl c w l g nm e = record { all = effect-length vl c w ∙ g .all; good = each }
   where
     a : Register
     a = reg (w .machine) (c .first)
@@ -86,7 +96,7 @@ effect-good vl c w g nm e = record { all = effect-length vl c w ∙ g .all; good
         go true p s =
             let f : Good vl a = g .good (c .first) (nm .first) in
             written-good vl (a .width) (results vl c w) (reg (w .machine) i) (g .good i h) (f .width)
-            (subst (λ n. n * a .width ≤ vl) (sym (results-length vl c w e)) (given-fits vl (w .memory) a f))
+            (subst (λ n. n * a .width ≤ vl) (sym (results-length vl c w e)) (outcome-fits (c .task) vl _ (a .width) l (f .width) (given-fits vl (w .memory) a f)))
             (subst (λ j. isOpen (reg (w .machine) j .state) ≡ true → length (results vl c w) ≤ length (nextChunk vl (reg (w .machine) j))) (sym (eqb-true _ _ p)) (room vl c w e))
         go false p true = read-good vl (w .memory) (reg (w .machine) i) (g .good i h)
         go false p false = g .good i h

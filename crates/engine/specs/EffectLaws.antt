@@ -4,7 +4,7 @@
 --   read-open, read-shut, written-open, written-shut   a source and a destination after it
 --   memory-length                              memory keeps its length
 --   length-lanes, given-fits                   so many lanes read; the lanes that a source gives fit the vector length
---   counts-same, results-length                both sources give equally many, and the result has as many
+--   counts-same, results-length                both sources give equally many; so many has the result
 --   open-store, room                           a store that is the destination has room for the result
 use Prim.Native.Nat.{ℕ, zero, suc, _+_, _*_, _/_, _≤_, _<_}
 use mathlib.Core.Path.{_≡_, refl, sym, _∙_, ap, subst}
@@ -17,9 +17,11 @@ use lib.Seq.{getD-set-same, getD-set-other, sets, length-sets}
 use lib.Dec.{eqb, ltb}
 use borrow.Author.Tests.{eqb-true, eqb-false, ltb-false, not-false}
 use Rattle.codec.specs.TestLaws.{or-false, and-false}
+use Rattle.codec.specs.declared.operation.Task.{Task}
+use Rattle.codec.specs.declared.operation.Task.the-variants.{Each, All}
 use Rattle.codec.specs.declared.operation.Calculation.{Calculation}
 use Rattle.engine.specs.Memory.{fetch, spot, littleEndian, stored, lanesFrom, contents, holding}
-use Rattle.engine.specs.Lanes.{lane, lanewise}
+use Rattle.engine.specs.Lanes.{lane, lanewise, outcome, outcomeCount}
 use Rattle.engine.specs.Registers.{isOpen, isLoad, openLoad, openStore, nextChunk, movedBy, noRegister, reg}
 use Rattle.engine.specs.Calculate.{World, given, results, refusalOf, readFrom, writtenTo, memoryAfter, effect}
 use Rattle.engine.specs.Good.{Good}
@@ -157,12 +159,17 @@ pub counts-same : (vl : ℕ) (c : Calculation) (w : World) → refusalOf vl c w 
     → length (given vl (w .memory) (reg (w .machine) (c .first))) ≡ length (given vl (w .memory) (reg (w .machine) (c .second)))
 counts-same vl c w e = eqb-true _ _ (not-false _ (or-false _ _ (checked vl c w e .counts) .0))
 
+-- of equally many lanes comes as many as the destination takes
+pub outcome-length : (t : Task) (n : ℕ) (xs ys : List ℕ) → length xs ≡ length ys → length (outcome t n xs ys) ≡ outcomeCount t (length xs)
+outcome-length (Each action) n xs ys e = lanewise-length (lane action n) xs ys e
+outcome-length (All fold) n xs ys e = refl
+
 -- the result has as many
 pub results-length : (vl : ℕ) (c : Calculation) (w : World) → refusalOf vl c w ≡ Nothing
-    → length (results vl c w) ≡ length (given vl (w .memory) (reg (w .machine) (c .first)))
+    → length (results vl c w) ≡ outcomeCount (c .task) (length (given vl (w .memory) (reg (w .machine) (c .first))))
 unfolding results
 results-length vl c w e =
-    lanewise-length (lane (c .action) (8 * reg (w .machine) (c .first) .width))
+    outcome-length (c .task) (8 * reg (w .machine) (c .first) .width)
     (given vl (w .memory) (reg (w .machine) (c .first)))
     (given vl (w .memory) (reg (w .machine) (c .second)))
     (counts-same vl c w e)
@@ -171,12 +178,12 @@ results-length vl c w e =
 pub open-store : (r : Register) → openLoad r ≡ false → isOpen (r .state) ≡ true → openStore r ≡ true
 open-store r e p = rw (p, and-false (isOpen (r .state)) (isLoad (r .kind)) e p)
 
--- an open destination that 10 and 13 do not refuse has a next chunk of at least n
-store-room : (vl n m : ℕ) (d : Register) → (not (eqb n m) || openStore d && ltb (length (nextChunk vl d)) n) ≡ false → openLoad d ≡ false
-    → isOpen (d .state) ≡ true → n ≤ length (nextChunk vl d)
-store-room vl n m d e k o =
-    let s = or-false (not (eqb n m)) (openStore d && ltb (length (nextChunk vl d)) n) e in
-    ltb-false (length (nextChunk vl d)) n (and-false (openStore d) (ltb (length (nextChunk vl d)) n) (s .1) (open-store d k o))
+-- an open destination that 10 and 13 do not refuse has a next chunk of at least i
+store-room : (vl n m i : ℕ) (d : Register) → (not (eqb n m) || openStore d && ltb (length (nextChunk vl d)) i) ≡ false → openLoad d ≡ false
+    → isOpen (d .state) ≡ true → i ≤ length (nextChunk vl d)
+store-room vl n m i d e k o =
+    let s = or-false (not (eqb n m)) (openStore d && ltb (length (nextChunk vl d)) i) e in
+    ltb-false (length (nextChunk vl d)) i (and-false (openStore d) (ltb (length (nextChunk vl d)) i) (s .1) (open-store d k o))
 
 -- the next chunk of a store that is the destination has room for the result
 pub room : (vl : ℕ) (c : Calculation) (w : World) → refusalOf vl c w ≡ Nothing → isOpen (reg (w .machine) (c .destination) .state) ≡ true
@@ -184,4 +191,5 @@ pub room : (vl : ℕ) (c : Calculation) (w : World) → refusalOf vl c w ≡ Not
 room vl c w e o =
     let k = checked vl c w e in
     subst (λ n. n ≤ length (nextChunk vl (reg (w .machine) (c .destination)))) (sym (results-length vl c w e))
-    (store-room vl _ _ (reg (w .machine) (c .destination)) (k .counts) (k .destination-kind) o)
+    (store-room vl (length (given vl (w .memory) (reg (w .machine) (c .first)))) (length (given vl (w .memory) (reg (w .machine) (c .second)))) _
+    (reg (w .machine) (c .destination)) (k .counts) (k .destination-kind) o)

@@ -74,7 +74,7 @@ module _ (vl loop : ℕ) (body : List Placed) where
         below = r .below;
         named = r .named;
         source = r .source;
-        good = subst (λ w. AllGood vl (w .machine)) (sym (p .world)) (after-good vl body (g .world) (r .named) (r .good) (p .completed));
+        good = subst (λ w. AllGood vl (w .machine)) (sym (p .world)) (after-good vl body (g .world) (r .lanes) (r .named) (r .good) (p .completed));
         load = subst (λ w. isLoad (reg (w .machine) loop .kind) ≡ true) (sym (p .world)) (ap isLoad (kind-kept vl body (g .world) loop h (p .completed)) ∙ r .load);
         stream = subst (λ w. IsStream (reg (w .machine) loop)) (sym (p .world)) (stream-kept vl body (g .world) loop h (p .completed) (r .stream));
         verdict = e;
@@ -183,4 +183,4 @@ module _ (vl loop : ℕ) (body : List Placed) where
 
   -- its registers are good
   pub execute-good : (w : World) → Running vl loop body (begun w) → AllGood vl (execute vl loop body w .world .machine)
-  execute-good w r = ran-good vl loop body (begun w) _ (r .named) (r .good) (repeat-ran vl loop body (length (toCome (reg (w .machine) loop))) (begun w) refl)
+  execute-good w r = ran-good vl loop body (begun w) _ (r .lanes) (r .named) (r .good) (repeat-ran vl loop body (length (toCome (reg (w .machine) loop))) (begun w) refl)

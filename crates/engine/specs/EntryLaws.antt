@@ -88,7 +88,7 @@ module _ (vl : ℕ) (l : 8 ≤ vl) where
   entries-follow w [] nm g k = refl
   entries-follow w (c ∷ cs) nm g k = (
     did-effect vl (c .calculation) w g (nm .0) l (k .0),
-    entries-follow (effect vl (c .calculation) w) cs (nm .1) (effect-good vl (c .calculation) w g (nm .0) (k .0)) (k .1),
+    entries-follow (effect vl (c .calculation) w) cs (nm .1) (effect-good vl (c .calculation) w l g (nm .0) (k .0)) (k .1),
   )
 
   -- and the reverse
@@ -118,7 +118,7 @@ module _ (vl : ℕ) (l : 8 ≤ vl) where
           d = did-one vl c w g (nm .0) l (e .after) (e .taken) (f .0)
 
           q : Followed vl (effect vl c w) es v
-          q = ih (effect-good vl c w g (nm .0) k) (subst (λ x. Follow vl x es v) d (f .1))
+          q = ih (effect-good vl c w l g (nm .0) k) (subst (λ x. Follow vl x es v) d (f .1))
 
           worlds : (k : ℕ) → worldAt w (e ∷ es) k ≡ afterAll vl w (take k (e .calculation ∷ entryCalculations es))
           worlds zero = refl

@@ -1,32 +1,32 @@
 -- Numbers read one by one, in the plain words of Promise 1: what stands in a sheet of bytes is what is read there.
 --
 --   number-there, there-number, no-number   a number, read and standing
---   holds, copy-plain, holds-plain          the range of a number, as a test
+--   holds, alone-plain, holds-plain         the range of a number, as a test
 --   reads, Through                          numbers read one by one, each in its range; that all are there
 --   reads-fault, reads-through, reads-either, reads-gives   what they give: the refusal of the first fault, or what follows them
 use Prim.Native.Nat.{ℕ}
 use mathlib.Core.Path.{_≡_, refl, sym, _∙_, ap}
-use mathlib.Core.Logic.{_⊎_, inl, inr, _↔_}
+use mathlib.Core.Logic.{_⊎_, inl, inr, ⊎-elim, _↔_}
 use mathlib.Core.List.{List, [], _∷_}
 use mathlib.Core.Bool.{Bool, true, false, not, _&&_, _||_}
 use native.Mathlib.Omega.{arith}
 use lib.ListN.{getD, take, drop}
-use lib.Dec.{leb, eqb}
+use lib.Dec.{leb, eqb, ltb}
 use lib.IntN.{natAbs}
-use borrow.Author.Tests.{eqb-true, eq-eqb}
-use Rattle.codec.specs.TestLaws.{never}
+use borrow.Author.Tests.{eqb-true, eq-eqb, ltb-true, lt-ltb}
+use Rattle.codec.specs.TestLaws.{never, or-second}
 use Rattle.codec.specs.Refusals.{is-numbered}
 use Rattle.codec.specs.Numbers.{numberAt, signedOf}
 use Rattle.codec.specs.NumberLaws.{areBytes, number-below, number-written, number-read}
 use Rattle.codec.specs.StandingLaws.{stands-split}
-use Rattle.codec.specs.Operations.{field, isRegister, isReach, isSecond}
+use Rattle.codec.specs.Operations.{field, isRegister, isReach, hasOneSource, isSecond}
 use Rattle.codec.specs.declared.number.Cursor.{Cursor}
 use Rattle.codec.specs.declared.number.Number.{Number}
 use Rattle.codec.specs.declared.number.Number.the-variants.{Value, NoNumber}
 use Rattle.codec.specs.declared.refusal.Refusal.{Refusal}
 use Rattle.codec.specs.declared.refusal.Refusal.the-variants.{BadNumber, OutOfRange}
 use Rattle.engine.specs.AllowedLaws.{fails, leb-plain, and-plain}
-use Rattle.engine.specs.Promise1.{NumberAt, NoNumberAt, Range, Holds, NumberFault, NumbersFault}
+use Rattle.engine.specs.Promise1.{NumberAt, NoNumberAt, Range, OneSource, Holds, NumberFault, NumbersFault}
 
 -- ---- numbers
 
@@ -58,12 +58,23 @@ holds (Range.between least most) before n = leb least n && leb n most
 holds Range.reach before n = isReach (signedOf n)
 holds Range.source before n = isSecond (getD before 2 0) (getD before 0 0) n
 
--- a copy's second source
-pub copy-plain : (code first n : ℕ) → ((not (eqb code 0) || eqb n first) ≡ true) ↔ (code ≡ 0 → n ≡ first)
-copy-plain code first n = (λ e z. eqb-true n first (rw (eq-eqb code 0 z) at e), λ h. back (eqb code 0) refl h)
+-- a calculation of one source only
+one-source : (code : ℕ) → (hasOneSource code ≡ true) ↔ OneSource code
+one-source code = (
+  λ e. there (eqb code 0) refl e,
+  ⊎-elim (λ p. ap hasOneSource p) (λ p. or-second (eqb code 0) (ltb 7 code) (lt-ltb 7 code p)),
+)
   where
-    back : (b : Bool) → eqb code 0 ≡ b → (code ≡ 0 → n ≡ first) → (not b || eqb n first) ≡ true
-    back true e h = eq-eqb n first (h (eqb-true code 0 e))
+    there : (b : Bool) → eqb code 0 ≡ b → (b || ltb 7 code) ≡ true → OneSource code
+    there true e h = inl (eqb-true code 0 e)
+    there false e h = inr (ltb-true 7 code h)
+
+-- its second source
+pub alone-plain : (code first n : ℕ) → ((not (hasOneSource code) || eqb n first) ≡ true) ↔ (OneSource code → n ≡ first)
+alone-plain code first n = (λ e z. eqb-true n first (rw (one-source code .1 z) at e), λ h. back (hasOneSource code) refl h)
+  where
+    back : (b : Bool) → hasOneSource code ≡ b → (OneSource code → n ≡ first) → (not b || eqb n first) ≡ true
+    back true e h = eq-eqb n first (h (one-source code .0 e))
     back false e h = refl
 
 -- the test is the range
@@ -73,7 +84,7 @@ holds-plain (Range.upTo most) before n = leb-plain n most
 holds-plain (Range.between least most) before n = and-plain (leb least n) (leb n most) (leb-plain least n) (leb-plain n most)
 holds-plain Range.reach before n = leb-plain (natAbs (signedOf n)) 1048576
 holds-plain Range.source before n =
-    and-plain (isRegister n) (not (eqb (getD before 2 0) 0) || eqb n (getD before 0 0)) (leb-plain n 31) (copy-plain (getD before 2 0) (getD before 0 0) n)
+    and-plain (isRegister n) (not (hasOneSource (getD before 2 0)) || eqb n (getD before 0 0)) (leb-plain n 31) (alone-plain (getD before 2 0) (getD before 0 0) n)
 
 -- ---- numbers one by one
 

@@ -13,11 +13,12 @@ use mathlib.Core.List.{List, [], _∷_, _++_, map}
 use lib.ListN.{length, getD, take, drop}
 use Rattle.codec.specs.declared.header.Coupling.the-variants.{Coupled}
 use Rattle.codec.specs.declared.operation.Action.the-variants.{Copy}
+use Rattle.codec.specs.declared.operation.Task.the-variants.{Each}
 use Rattle.codec.specs.declared.operation.Calculation.{Calculation}
 use Rattle.codec.specs.declared.refusal.Refusal.{Refusal}
 use Rattle.engine.specs.Loops.{elements}
 use Rattle.engine.specs.Memory.{fetch, stored, contents, holding}
-use Rattle.engine.specs.Lanes.{lane, lanewise}
+use Rattle.engine.specs.Lanes.{outcome}
 use Rattle.engine.specs.Registers.{shapeOf, movedTo, reg}
 use Rattle.engine.specs.Calculate.{World}
 use Rattle.engine.specs.Run.{Progress}
@@ -93,9 +94,9 @@ pub record Did (vl : ℕ) (c : Calculation) (w v : World) (taken : ℕ → List 
   pub second : List ℕ
   pub gives-first : Gives vl (w .memory) (reg (w .machine) (c .first)) (taken (c .first)) first
   pub gives-second : Gives vl (w .memory) (reg (w .machine) (c .second)) (taken (c .second)) second
-  -- the operation, lane by lane, of both sources' lanes
+  -- the operation, lane by lane, of both sources' lanes, or over all lanes of the first
   pub out : List ℕ
-  pub calculated : out ≡ lanewise (lane (c .action) (8 * reg (w .machine) (c .first) .width)) first second
+  pub calculated : out ≡ outcome (c .task) (8 * reg (w .machine) (c .first) .width) first second
   pub registers : length (v .machine .registers) ≡ 32
   pub becomes : (i : ℕ) → i < 32 → Becomes vl c w out i (taken i) (reg (v .machine) i)
   pub stores : Stores c w out (taken (c .destination)) (v .memory)
@@ -128,7 +129,7 @@ movedOf (e ∷ es) i = e .taken i ++ movedOf es i
 
 -- what `getD` gives past the end of a body; no calculation of a run is such
 abbrev pub noPlaced : Placed
-noPlaced = record { place = 0; calculation = record { action = Copy; destination = 0; first = 0; second = 0 } }
+noPlaced = record { place = 0; calculation = record { task = Each Copy; destination = 0; first = 0; second = 0 } }
 
 -- calculation k of a body that is repeated
 abbrev pub inTurn : List Placed → ℕ → Placed

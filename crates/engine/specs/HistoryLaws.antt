@@ -67,21 +67,21 @@ after-length vl [] w = refl
 after-length vl (c ∷ cs) w = after-length vl cs (effect vl (c .calculation) w) ∙ effect-length vl (c .calculation) w
 
 -- all registers stay good
-pub after-good : (vl : ℕ) (cs : List Placed) (w : World) → AllNamed cs → AllGood vl (w .machine) → Completed vl w cs → AllGood vl (afterAll vl w cs .machine)
+pub after-good : (vl : ℕ) (cs : List Placed) (w : World) → 8 ≤ vl → AllNamed cs → AllGood vl (w .machine) → Completed vl w cs → AllGood vl (afterAll vl w cs .machine)
 unfolding afterAll Completed AllNamed
-after-good vl [] w nm g k = g
-after-good vl (c ∷ cs) w nm g k =
-    after-good vl cs (effect vl (c .calculation) w) (nm .1) (effect-good vl (c .calculation) w g (nm .0) (k .0)) (k .1)
+after-good vl [] w l nm g k = g
+after-good vl (c ∷ cs) w l nm g k =
+    after-good vl cs (effect vl (c .calculation) w) l (nm .1) (effect-good vl (c .calculation) w l g (nm .0) (k .0)) (k .1)
 
 -- the elements of a register that the calculations moved, joined, then those to come, are those that were to come
-pub each-once : (vl : ℕ) (cs : List Placed) (w : World) (i : ℕ) → i < 32 → AllNamed cs → AllGood vl (w .machine) → Completed vl w cs
+pub each-once : (vl : ℕ) (cs : List Placed) (w : World) (i : ℕ) → 8 ≤ vl → i < 32 → AllNamed cs → AllGood vl (w .machine) → Completed vl w cs
     → movedOver vl w cs i ++ toCome (reg (afterAll vl w cs .machine) i) ≡ toCome (reg (w .machine) i)
 unfolding movedOver afterAll Completed AllNamed
-each-once vl [] w i h nm g k = refl
-each-once vl (c ∷ cs) w i h nm g k =
+each-once vl [] w i l h nm g k = refl
+each-once vl (c ∷ cs) w i l h nm g k =
     let v : World = effect vl (c .calculation) w in
     append-assoc (movedIn vl (c .calculation) w i) (movedOver vl v cs i) (toCome (reg (afterAll vl v cs .machine) i))
-    ∙ ap (λ l. movedIn vl (c .calculation) w i ++ l) (each-once vl cs v i h (nm .1) (effect-good vl (c .calculation) w g (nm .0) (k .0)) (k .1))
+    ∙ ap (λ vs. movedIn vl (c .calculation) w i ++ vs) (each-once vl cs v i l h (nm .1) (effect-good vl (c .calculation) w l g (nm .0) (k .0)) (k .1))
     ∙ once vl (c .calculation) w i (omega (arith, g .all)) (k .0) (g .good i h)
 
 -- what is a register before a calculation is one after it
@@ -170,7 +170,7 @@ fewer vl cs w i l h nm g k o n =
     omega (
       arith,
       moves vl cs w i l (omega (arith, g .all)) (g .good i h) k o n,
-      ap length (each-once vl cs w i h nm g k),
+      ap length (each-once vl cs w i l h nm g k),
       length-append (movedOver vl w cs i) (toCome (reg (afterAll vl w cs .machine) i)),
     )
 

@@ -14,6 +14,7 @@ use lib.ListN.{length}
 use Rattle.codec.specs.declared.header.Kind.{Kind}
 use Rattle.codec.specs.declared.header.Kind.the-variants.{Load, Store}
 use Rattle.codec.specs.declared.operation.Action.{Action}
+use Rattle.codec.specs.declared.operation.Task.the-variants.{Each}
 use Rattle.codec.specs.declared.operation.Calculation.{Calculation}
 use Rattle.engine.specs.Loops.{elements}
 use Rattle.engine.specs.Chunks.{chunk}
@@ -53,7 +54,7 @@ pub record Streaming (p : Pattern) (kind : Kind) (width n : ℕ) (r : Register) 
 -- a calculation from two loads to a store, in three registers or two, all of them at element n
 pub record InStep (vl : ℕ) (b : Three) (c : Calculation) (n : ℕ) (w : World) : Type 0 where
   pub named : Named c
-  pub action : c .action ≡ b .action
+  pub task : c .task ≡ Each (b .action)
   pub not-first : ¬ (c .first ≡ c .destination)
   pub not-second : ¬ (c .second ≡ c .destination)
   pub good : AllGood vl (w .machine)

@@ -23,7 +23,7 @@ use Rattle.engine.specs.Loops.{sizeAt, elements}
 use Rattle.engine.specs.Chunks.{streamGroups, chunk}
 use Rattle.engine.specs.Addresses.{address, inside}
 use Rattle.engine.specs.Memory.{fetch, holding}
-use Rattle.engine.specs.Lanes.{lane, lanewise}
+use Rattle.engine.specs.Lanes.{lane, lanewise, outcomeCount, wantsLanes}
 use Rattle.engine.specs.Registers.{isConfiguring, isOpen, isFinished, openLoad, openStore, stateAfter, shapeOf, nextChunk, movedBy, toCome, reg}
 use Rattle.engine.specs.Calculate.{World, given, results, allInside, outside, refusalOf, readFrom, writtenTo, memoryAfter, effect}
 use Rattle.engine.specs.Run.{Progress, begun, unlessRefused, pass, passBy, counted, repeat, repeatBy, execute}
@@ -204,8 +204,8 @@ module _ (vl : ℕ) (b : Three) (s : Shape) (one : OneShape b s) (c : Calculatio
   -- it is not refused
   pub unhindered : AllInside b (length (w .memory)) now → refusalOf vl c w ≡ Nothing
   unhindered l =
-      let m : take (length (given vl (w .memory) ra)) (nextChunk vl rd) ≡ now = rw (lanes-a, next-d) (take-length now) in
-      let fits : length (given vl (w .memory) ra) ≤ length (nextChunk vl rd) = omega (arith, ap length next-d, lanes-a) in
+      let m : take (outcomeCount (c .task) (length (given vl (w .memory) ra))) (nextChunk vl rd) ≡ now = rw (t .task, lanes-a, next-d) (take-length now) in
+      let fits : outcomeCount (c .task) (length (given vl (w .memory) ra)) ≤ length (nextChunk vl rd) = rw (t .task) (omega (arith, ap length next-d, lanes-a)) in
       not-refused vl c w
       (record {
         first-state = ap isConfiguring open-a;
@@ -219,6 +219,7 @@ module _ (vl : ℕ) (b : Three) (s : Shape) (one : OneShape b s) (c : Calculatio
         destination-kind = no-load rd (t .destination .is);
         widths = neither _ (openStore rd) _ (eq-eqb _ _ (t .first .wide ∙ sym (t .second .wide))) (ap not (eq-eqb _ _ (t .first .wide ∙ sym (t .destination .wide))));
         counts = neither _ (openStore rd) _ (eq-eqb _ _ (lanes-a ∙ sym lanes-b)) (le-ltb _ _ fits);
+        some = ap (λ k. wantsLanes k && eqb (length (given vl (w .memory) ra)) 0) (t .task);
         first-inside = not-outside (b .first) ra (nextChunk vl ra) (t .first .pattern) (t .first .wide) next-a (l .first);
         second-inside = not-outside (b .second) rb (nextChunk vl rb) (t .second .pattern) (t .second .wide) next-b (l .second);
         destination-inside = not-outside (b .destination) rd _ (t .destination .pattern) (t .destination .wide) m (l .destination);
@@ -228,7 +229,7 @@ module _ (vl : ℕ) (b : Three) (s : Shape) (one : OneShape b s) (c : Calculatio
   results-are : results vl c w
       ≡ lanewise (lane (b .action) (8 * b .width)) (map (fetch (b .first) (b .width) (w .memory)) now) (map (fetch (b .second) (b .width) (w .memory)) now)
   unfolding results
-  results-are = rw (t .action, t .first .wide, given-a, given-b)
+  results-are = rw (t .task, t .first .wide, given-a, given-b)
 
   -- memory after it: all lanes read, then all stored
   pub one-done : effect vl c w .memory ≡ chunkDone b (w .memory) now
@@ -236,13 +237,13 @@ module _ (vl : ℕ) (b : Three) (s : Shape) (one : OneShape b s) (c : Calculatio
   one-done = let o : isOpen (rd .state) ≡ true = ap isOpen open-d in rw (o, t .destination .pattern, t .destination .wide, next-d, results-are)
 
   -- all three move on together
-  pub together : refusalOf vl c w ≡ Nothing → InStep vl b c (n + length now) (effect vl c w)
-  together e = record {
+  pub together : 8 ≤ vl → refusalOf vl c w ≡ Nothing → InStep vl b c (n + length now) (effect vl c w)
+  together least e = record {
     named = t .named;
-    action = t .action;
+    task = t .task;
     not-first = t .not-first;
     not-second = t .not-second;
-    good = effect-good vl c w (t .good) (t .named) e;
+    good = effect-good vl c w least (t .good) (t .named) e;
     first = rw (reg-a, ← one .first) (read-on _ _ _ n vl (w .memory) ra (t .first) (rw (one .first) h));
     second = rw (reg-b, ← one .second) (read-on _ _ _ n vl (w .memory) rb (t .second) (rw (one .second) h));
     destination = rw (reg-d, ← lanes-out) (wrote-on _ _ _ n (ra .width) (results vl c w) rd (t .destination) (rw (one .destination) h));
@@ -267,7 +268,7 @@ module _ (vl : ℕ) (b : Three) (s : Shape) (one : OneShape b s) (c : Calculatio
       reg-d = effect-reg vl c w (c .destination) (below (c .destination) (t .named .destination)) ∙ rw (eq-eqb (c .destination) (c .destination) refl)
 
       lanes-out : length (results vl c w) ≡ length now
-      lanes-out = results-length vl c w e ∙ lanes-a
+      lanes-out = results-length vl c w e ∙ ap (λ k. outcomeCount k (length (given vl (w .memory) ra))) (t .task) ∙ lanes-a
 
 -- ---- the run
 
@@ -296,7 +297,7 @@ pub record StepsDone (vl : ℕ) (b : Three) (s : Shape) (n : ℕ) (memory : List
   pub done : r .verdict ≡ Done
   pub memory-after : r .world .memory ≡ chunksDone b memory chunks
 
-module _ (vl : ℕ) (b : Three) (s : Shape) (one : OneShape b s) (cov : Covers (s .dims) (s .coupling)) (lanes : 0 < vl / b .width) (c : Placed) (loop : ℕ)
+module _ (vl : ℕ) (b : Three) (s : Shape) (one : OneShape b s) (cov : Covers (s .dims) (s .coupling)) (least : 8 ≤ vl) (lanes : 0 < vl / b .width) (c : Placed) (loop : ℕ)
     (is : (loop ≡ c .calculation .first) ⊎ (loop ≡ c .calculation .second)) where
   -- the three streams are in step at element n
   abbrev Steps : ℕ → World → Type 0
@@ -364,7 +365,7 @@ module _ (vl : ℕ) (b : Three) (s : Shape) (one : OneShape b s) (cov : Covers (
           let memory : q .world .memory ≡ chunkDone b (w .memory) u = ap (λ z. z .memory) (done .1) ∙ one-done vl b s one (c .calculation) n w t h in
           let len : length (q .world .memory) ≡ length (w .memory) = ap (λ z. length (z .memory)) (done .1) ∙ memory-length vl (c .calculation) w in
           let r : StepsDone vl b s (n + length u) (q .world .memory) (repeat vl loop (c ∷ []) f (counted q)) =
-          rest (n + length u) (counted q) (done .0) (rw (done .1) (together vl b s one (c .calculation) n w t h free)) most (omega arith) (rw len l) in
+          rest (n + length u) (counted q) (done .0) (rw (done .1) (together vl b s one (c .calculation) n w t h least free)) most (omega arith) (rw len l) in
           subst (λ o. Goal o (q .verdict)) (sym (loop-open n w t h))
           (subst (Goal true) (sym (done .0))
           (record {

@@ -35,6 +35,10 @@ pub mod Reasons
 pub mod CheckLaws
 pub mod LaneLaws
 pub mod SignedLaws
+pub mod FoldLaws
+pub mod ChoiceLaws
+pub mod ExtremeLaws
+pub mod FirstLaws
 pub mod ByteLaws
 pub mod Operands
 pub mod OperandLaws
@@ -72,6 +76,10 @@ pub mod OutsideLaws
 pub mod ReasonLaws
 pub mod Blame
 pub mod ContentLaws
+pub mod StreamSums
+pub mod RowSums
+pub mod SumLaws
+pub mod BorderLaws
 pub mod FieldLaws
 pub mod ReadingLaws
 pub mod StandLaws
@@ -80,6 +88,7 @@ pub mod SameLoops
 pub mod InOrderLaws
 pub mod Table
 pub mod Samples
+pub mod SumSamples
 pub mod Outlines
 pub mod OutlineLaws
 pub mod AnswerLaws

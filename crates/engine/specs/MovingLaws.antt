@@ -101,7 +101,7 @@ pub did-inside : (vl : ℕ) (c : Calculation) (w v : World) (taken : ℕ → Lis
 did-inside vl c w v taken i t soFar l g nm d h s =
     let e : refusalOf vl c w ≡ Nothing = calculates-clear vl c w .1 (d .calculates) in
     let x : AllGood vl (effect vl c w .machine) × InRegister t (soFar ++ taken i) (reg (effect vl c w .machine) i) = (
-      effect-good vl c w g nm e,
+      effect-good vl c w l g nm e,
       subst (λ vs. InRegister t (soFar ++ vs) (reg (effect vl c w .machine) i)) (sym (did-taken vl c w g nm l v taken d i h)) (inside-goes vl c w i t soFar (omega (arith, g .all)) e (g .good i h) s),
     ) in
     subst (λ u. AllGood vl (u .machine) × InRegister t (soFar ++ taken i) (reg (u .machine) i)) (sym (did-one vl c w g nm l v taken d)) x

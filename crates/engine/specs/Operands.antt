@@ -12,11 +12,11 @@ use mathlib.Core.List.{List}
 use mathlib.Core.Bool.{Bool, true, cond, not, _&&_}
 use lib.IntN.{ℤ}
 use lib.ListN.{length}
-use Rattle.codec.specs.declared.operation.Action.{Action}
+use Rattle.codec.specs.declared.operation.Task.{Task}
 use Rattle.codec.specs.declared.refusal.Role.{Role}
 use Rattle.codec.specs.declared.refusal.Refusal.the-variants.{Outside}
 use Rattle.engine.specs.Chunks.{chunk}
-use Rattle.engine.specs.Lanes.{lane, lanewise}
+use Rattle.engine.specs.Lanes.{outcome}
 use Rattle.engine.specs.Memory.{contents, holding}
 use Rattle.engine.specs.Checks.{Check, _if_, firstOf}
 use Rattle.engine.specs.Configure.{unlessBecause}
@@ -69,29 +69,29 @@ abbrev pub lanesOf : Register → Operand → List ℕ → List ℕ
 lanesOf r o memory = cond (o .live) (fetchedAt memory (r .width) (o .addresses)) (contents r)
 
 -- the lanes of a calculation on two sources
-abbrev pub resultsOn : ℕ → Action → List ℕ → Register → Register → List ℕ
-resultsOn vl action memory a b = lanewise (lane action (8 * a .width)) (given vl memory a) (given vl memory b)
+abbrev pub resultsOn : ℕ → Task → List ℕ → Register → Register → List ℕ
+resultsOn vl t memory a b = outcome t (8 * a .width) (given vl memory a) (given vl memory b)
 
 -- why a calculation on these registers is refused
-abbrev pub whyOn : ℕ → List ℕ → Register → Register → Register → Why
-whyOn vl memory a b d = firstOf (checksOn vl (length memory) (length (given vl memory a)) (length (given vl memory b)) a b d)
+abbrev pub whyOn : Task → ℕ → List ℕ → Register → Register → Register → Why
+whyOn t vl memory a b d = firstOf (checksOn t vl (length memory) (length (given vl memory a)) (length (given vl memory b)) a b d)
 
 -- why it is refused, if it is, and the memory after it; if it is not refused, the first source, the second and the destination after it
-pub record Calculated (vl : ℕ) (action : Action) (memory : List ℕ) (a b d : Register) (why : Why) (first second destination : Register) (after : List ℕ) : Type 0 where
-  pub refused : why ≡ whyOn vl memory a b d
+pub record Calculated (vl : ℕ) (t : Task) (memory : List ℕ) (a b d : Register) (why : Why) (first second destination : Register) (after : List ℕ) : Type 0 where
+  pub refused : why ≡ whyOn t vl memory a b d
   pub read : why ≡ Nothing → first ≡ readFrom vl memory a
   pub other : why ≡ Nothing → second ≡ readFrom vl memory b
-  pub written : why ≡ Nothing → destination ≡ writtenTo (a .width) (resultsOn vl action memory a b) d
-  pub stored : after ≡ unlessBecause (whyOn vl memory a b d) (memoryAfter vl (resultsOn vl action memory a b) memory d) memory
+  pub written : why ≡ Nothing → destination ≡ writtenTo (a .width) (resultsOn vl t memory a b) d
+  pub stored : after ≡ unlessBecause (whyOn t vl memory a b d) (memoryAfter vl (resultsOn vl t memory a b) memory d) memory
 
 -- the lanes of the result, over operands
-abbrev pub lanesOut : Action → List ℕ → Register → Register → Operand → Operand → List ℕ
-lanesOut action memory a b x y = lanewise (lane action (8 * a .width)) (lanesOf a x memory) (lanesOf b y memory)
+abbrev pub lanesOut : Task → List ℕ → Register → Register → Operand → Operand → List ℕ
+lanesOut t memory a b x y = outcome t (8 * a .width) (lanesOf a x memory) (lanesOf b y memory)
 
 -- a calculation carried out, over operands
-pub record CarriedOut (action : Action) (memory : List ℕ) (a b d : Register) (x y z : Operand) (why : Why) (first second destination : Register) (after : List ℕ) : Type 0 where
+pub record CarriedOut (t : Task) (memory : List ℕ) (a b d : Register) (x y z : Operand) (why : Why) (first second destination : Register) (after : List ℕ) : Type 0 where
   pub done : why ≡ Nothing
   pub read : first ≡ cond (x .live) (holding (a .width) (lanesOf a x memory) (x .after)) a
   pub other : second ≡ cond (y .live) (holding (b .width) (lanesOf b y memory) (y .after)) b
-  pub written : destination ≡ cond (z .live) (z .after) (holding (a .width) (lanesOut action memory a b x y) d)
-  pub stored : after ≡ cond (z .live) (storedAt memory (d .width) (z .addresses) (lanesOut action memory a b x y)) memory
+  pub written : destination ≡ cond (z .live) (z .after) (holding (a .width) (lanesOut t memory a b x y) d)
+  pub stored : after ≡ cond (z .live) (storedAt memory (d .width) (z .addresses) (lanesOut t memory a b x y)) memory

@@ -26,7 +26,7 @@ use Rattle.codec.specs.NumberLaws.{Stands}
 use Rattle.codec.specs.Refusals.{numberOf}
 use Rattle.codec.specs.Headers.{bitsOf}
 use Rattle.codec.specs.HeaderLaws.{isFree}
-use Rattle.codec.specs.Operations.{operationBytes, calculationBytes, actionCode}
+use Rattle.codec.specs.Operations.{operationBytes, calculationBytes, taskCode}
 use Rattle.codec.specs.declared.header.Kind.the-variants.{Load}
 use Rattle.codec.specs.declared.header.Coupling.{Coupling}
 use Rattle.codec.specs.declared.header.Coupling.the-variants.{Uncoupled, Coupled}
@@ -69,6 +69,11 @@ pub data Range : Type 0 where
   reach : Range
   source : Range
 
+-- "0 copy (second source must equal the first, else 2)"; 02, 2/14, of 8 to 11: "The second source must equal the first": a calculation of
+-- this code has one source only
+abbrev pub OneSource : ℕ → Type 0
+OneSource code = (code ≡ 0) ⊎ (8 ≤ code)
+
 -- a number in its range; `before` are the operation's numbers before it, the nearest first
 abbrev pub Holds : Range → List ℕ → ℕ → Type 0
 Holds any before n = Unit {0}
@@ -76,8 +81,8 @@ Holds (upTo most) before n = n ≤ most
 Holds (between least most) before n = (least ≤ n) × (n ≤ most)
 -- offset and stride: "-1,048,576 to 1,048,576"
 Holds reach before n = natAbs (signedOf n) ≤ 1048576
--- a second source: "0 copy (second source must equal the first, else 2)"
-Holds source before n = (n ≤ 31) × (getD before 2 0 ≡ 0 → n ≡ getD before 0 0)
+-- a second source
+Holds source before n = (n ≤ 31) × (OneSource (getD before 2 0) → n ≡ getD before 0 0)
 
 -- the numbers of each operation, after its own
 abbrev pub fieldsOf : ℕ → List Range
@@ -95,9 +100,9 @@ fieldsOf (suc (suc (suc (suc (suc zero))))) = upTo 31 ∷ between 1 16 ∷ []
 fieldsOf zero = []
 fieldsOf (suc (suc (suc (suc (suc (suc n)))))) = []
 
--- "each: operation, destination, first source, second source"
+-- "each: operation, destination, first source, second source"; 02, 2/14: "calculations 8 to 11"
 abbrev pub calculationFields : List Range
-calculationFields = upTo 7 ∷ upTo 31 ∷ upTo 31 ∷ source ∷ []
+calculationFields = upTo 11 ∷ upTo 31 ∷ upTo 31 ∷ source ∷ []
 
 -- "Each number is read, then checked for range, before the next": the fault is in this number, 1 or 2, or in a later one
 pub data NumberFault (s : List ℕ) (x : Refusal) (at : ℕ) (before : List ℕ) (f : Range) (Later : ℕ → ℕ → Type 0) : Type 0 where
@@ -188,7 +193,7 @@ pub record CalculationAt (s : List ℕ) (at : ℕ) (c : Calculation) (to : ℕ) 
   pub destination : c .destination ≤ 31
   pub first : c .first ≤ 31
   pub second : c .second ≤ 31
-  pub copy : actionCode (c .action) ≡ 0 → c .second ≡ c .first
+  pub alone : OneSource (taskCode (c .task)) → c .second ≡ c .first
   pub stands : Stands s at (calculationBytes c) to
 
 -- calculations, one behind the other, each with its place

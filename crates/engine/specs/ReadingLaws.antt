@@ -23,7 +23,7 @@ use Rattle.codec.specs.Numbers.{numberAt, signedOf, asSigned}
 use Rattle.codec.specs.NumberLaws.{areBytes}
 use Rattle.codec.specs.StandingLaws.{stands-split}
 use Rattle.codec.specs.Headers.{bitsOf, fixedBits, clearBits, headerSaid, headerOf, couplingInRange}
-use Rattle.codec.specs.Operations.{field, signedField, anyNumber, openOf, openAt, dimensionAt, modifierAt, endAt, runAt, operationNumbered, operationAt, calculationAt, parameterCoded, behaviourCoded, actionCoded, actionCode, operationInRange, calculationInRange}
+use Rattle.codec.specs.Operations.{field, signedField, anyNumber, openOf, openAt, dimensionAt, modifierAt, endAt, runAt, operationNumbered, operationAt, calculationAt, parameterCoded, behaviourCoded, taskCoded, taskCode, operationInRange, calculationInRange}
 use Rattle.codec.specs.OperationLaws.{operation-written, operation-read, calculation-written, calculation-read}
 use Rattle.codec.specs.declared.number.Cursor.{Cursor}
 use Rattle.codec.specs.declared.number.Number.{Number}
@@ -42,8 +42,8 @@ use Rattle.codec.specs.declared.operation.Body.the-variants as body
 use Rattle.codec.specs.declared.refusal.Refusal.{Refusal}
 use Rattle.codec.specs.declared.refusal.Refusal.the-variants.{OutOfRange, FixedBits, NotCarried}
 use Rattle.engine.specs.AllowedLaws.{fails, leb-plain, eqb-plain, and-plain, nonneg-plain}
-use Rattle.engine.specs.Promise1.{NumberAt, Range, fieldsOf, calculationFields, NumbersFault, FixedRight, BothClear, WordFault, Unread, UnreadCalculation, CouplingInRange, OperationInRange, OperationAt, CalculationAt}
-use Rattle.engine.specs.FieldLaws.{copy-plain, reads, Through, reads-fault, reads-through, reads-gives}
+use Rattle.engine.specs.Promise1.{NumberAt, Range, OneSource, fieldsOf, calculationFields, NumbersFault, FixedRight, BothClear, WordFault, Unread, UnreadCalculation, CouplingInRange, OperationInRange, OperationAt, CalculationAt}
+use Rattle.engine.specs.FieldLaws.{alone-plain, reads, Through, reads-fault, reads-through, reads-gives}
 
 -- ---- header words
 
@@ -264,7 +264,7 @@ read-written s at o c p e =
 -- the calculation of its numbers, nearest first
 abbrev ofNumbers : List ℕ → ℕ → Body
 ofNumbers ns to =
-    body.Calculation (record { action = actionCoded (getD ns 3 0); destination = getD ns 2 0; first = getD ns 1 0; second = getD ns 0 0 }) (record { at = to })
+    body.Calculation (record { task = taskCoded (getD ns 3 0); destination = getD ns 2 0; first = getD ns 1 0; second = getD ns 0 0 }) (record { at = to })
 
 -- a calculation is read number by number
 calculation-reads : (s : List ℕ) (place : ℕ) → calculationAt s place ≡ reads (λ x. body.Refused x place) s place [] calculationFields ofNumbers
@@ -289,16 +289,16 @@ refused-uncalculated s at x place p e =
 
 -- the numbers of a calculation in range
 calculation-range : (c : Calculation) → (calculationInRange c ≡ true)
-    ↔ (((c .destination ≤ 31) × (c .first ≤ 31)) × ((c .second ≤ 31) × (actionCode (c .action) ≡ 0 → c .second ≡ c .first)))
+    ↔ (((c .destination ≤ 31) × (c .first ≤ 31)) × ((c .second ≤ 31) × (OneSource (taskCode (c .task)) → c .second ≡ c .first)))
 calculation-range c =
     and-plain _ _ (and-plain _ _ (leb-plain (c .destination) 31) (leb-plain (c .first) 31))
-    (and-plain _ _ (leb-plain (c .second) 31) (copy-plain (actionCode (c .action)) (c .first) (c .second)))
+    (and-plain _ _ (leb-plain (c .second) 31) (alone-plain (taskCode (c .task)) (c .first) (c .second)))
 
 -- a calculation that stands in the sheet is read
 pub calculated-read : (s : List ℕ) (at : ℕ) (c : Calculation) (to : ℕ) → CalculationAt s at c to → calculationAt s at ≡ body.Calculation c (record { at = to })
 calculated-read s at c to h =
     let q = stands-split (h .stands) in
-    rw (q .1) at (calculation-written s (take at s) (drop to s) c (calculation-range c .1 ((h .destination, h .first), (h .second, h .copy))) (q .0))
+    rw (q .1) at (calculation-written s (take at s) (drop to s) c (calculation-range c .1 ((h .destination, h .first), (h .second, h .alone))) (q .0))
     ∙ ap (λ k. body.Calculation c (record { at = k })) (q .2)
 
 -- one that is read stands there
@@ -306,4 +306,4 @@ pub read-calculated : (s : List ℕ) (at : ℕ) (c : Calculation) (to : Cursor) 
 read-calculated s at c to p e =
     let d = calculation-read s at c to p e in
     let r = calculation-range c .0 (d .range) in
-    record { destination = r .0 .0; first = r .0 .1; second = r .1 .0; copy = r .1 .1; stands = d .stands }
+    record { destination = r .0 .0; first = r .0 .1; second = r .1 .0; alone = r .1 .1; stands = d .stands }

@@ -20,22 +20,24 @@ use Rattle.codec.specs.declared.header.Kind.{Kind}
 use Rattle.codec.specs.declared.header.Kind.the-variants.{Load, Store}
 use Rattle.codec.specs.declared.operation.Operation.{Operation}
 use Rattle.codec.specs.declared.operation.Operation.the-variants as op
+use Rattle.codec.specs.declared.operation.Task.{Task}
 use Rattle.codec.specs.declared.operation.Calculation.{Calculation}
 use Rattle.codec.specs.declared.refusal.Role.{Role}
 use Rattle.codec.specs.declared.refusal.Role.the-variants as role
 use Rattle.codec.specs.declared.refusal.Refusal.{Refusal}
-use Rattle.codec.specs.declared.refusal.Refusal.the-variants.{OutOfRange, WrongState, TooMany, Misplaced, LowHigh, Product, WrongKind, StreamEnded, Widths, LaneCounts, Outside}
+use Rattle.codec.specs.declared.refusal.Refusal.the-variants.{OutOfRange, WrongState, TooMany, Misplaced, LowHigh, Product, WrongKind, StreamEnded, Widths, LaneCounts, NoLanes, Outside}
 use Rattle.engine.specs.Rules.{highsOf, product}
 use Rattle.engine.specs.Checks.{Check, _if_, firstOf}
 use Rattle.engine.specs.Registers.{isConfiguring, isOpen, isFinished, isLoad, openStore, shapeOf, nextChunk, reg}
 use Rattle.engine.specs.Configure.{openChecks, dimensionChecks, modifierChecks, endChecks, registerOf, whyNot}
 use Rattle.engine.specs.Questions.{unless, askFlag, askEnd}
+use Rattle.engine.specs.Lanes.{outcomeCount}
 use Rattle.engine.specs.Calculate.{World, laneOutside, outside, sourceChecks, destinationChecks, insideCheck, checksOn, refusalOf}
 use Rattle.engine.specs.GoodLaws.{next, more}
 use Rattle.engine.specs.CalculationLaws.{nothing}
 use Rattle.engine.specs.Allowed.{Opens, OpenLie, Source, Destination}
 use Rattle.engine.specs.AllowedLaws.{neither, is-configuring, opens-clear, low-high, covers-clear, some-dimension, stream-plain}
-use Rattle.engine.specs.CalculatesLaws.{outside-lie, source-clear, destination-clear, store-clear}
+use Rattle.engine.specs.CalculatesLaws.{outside-lie, source-clear, destination-clear, store-clear, some-clear}
 use Rattle.engine.specs.OutsideLaws.{first-outside, outside-first}
 use Rattle.engine.specs.Reasons.{Wanted, OpenRefused, DimensionRefused, ModifierRefused, EndRefused, OperationRefused, AsSource, AsDestination, FirstOutside, WantedInside, CalculationRefusedOn, CalculationRefused, FlagRefused, EndOfStreamRefused}
 use Rattle.engine.specs.declared.check.Why.{Why}
@@ -262,22 +264,23 @@ destination-refused r cs x l =
     (λ k. l (destination-clear r .0 (unconfigured-test (r .state) .1 p, unfinished-test (r .state) .1 q, store-test (r .state) (r .kind) .1 k)))))
 
 -- a calculation, on its registers
-pub calculation-refused-on : (vl len n m : ℕ) (a b d : Register) (x : Refusal)
-    → (firstOf (checksOn vl len n m a b d) ≡ Because x) ↔ CalculationRefusedOn vl len n m a b d x
-calculation-refused-on vl len n m a b d x =
+pub calculation-refused-on : (t : Task) (vl len n m : ℕ) (a b d : Register) (x : Refusal)
+    → (firstOf (checksOn t vl len n m a b d) ≡ Because x) ↔ CalculationRefusedOn t vl len n m a b d x
+calculation-refused-on t vl len n m a b d x =
     source-refused a _ x
     (λ p. source-refused b _ x
     (λ q. destination-refused d _ x
     (λ s. wanted Widths _ _ x refl (neither-test _ _ (same-test (a .width) (b .width)) (open-test d _ s (same-test (a .width) (d .width))))
-    (λ w. wanted LaneCounts _ _ x refl (neither-test _ _ (same-test n m) (open-test d _ s (most-test (length (nextChunk vl d)) n)))
-    (λ k. wanted-inside role.First len a _ _ x
+    (λ w. wanted LaneCounts _ _ x refl (neither-test _ _ (same-test n m) (open-test d _ s (most-test (length (nextChunk vl d)) (outcomeCount t n))))
+    (λ k. wanted NoLanes _ _ x refl (some-clear t n)
+    (λ l. wanted-inside role.First len a _ _ x
     (λ f. wanted-inside role.Second len b _ _ x
-    (λ g. wanted-inside role.Destination len d _ [] x (λ h. none-wanted x))))))))
+    (λ g. wanted-inside role.Destination len d _ [] x (λ h. none-wanted x)))))))))
 
 -- a calculation in a world
 pub calculation-refused : (vl : ℕ) (c : Calculation) (w : World) (x : Refusal) → (refusalOf vl c w ≡ Because x) ↔ CalculationRefused vl c w x
 unfolding refusalOf
-calculation-refused vl c w x = calculation-refused-on vl _ _ _ _ _ _ x
+calculation-refused vl c w x = calculation-refused-on (c .task) vl _ _ _ _ _ _ x
 
 -- ---- asking
 

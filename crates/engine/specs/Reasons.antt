@@ -18,14 +18,16 @@ use Rattle.codec.specs.Refusals.{numberOf, laneOf, operandOf}
 use Rattle.codec.specs.declared.header.Kind.the-variants.{Load, Store}
 use Rattle.codec.specs.declared.operation.Operation.{Operation}
 use Rattle.codec.specs.declared.operation.Operation.the-variants as op
+use Rattle.codec.specs.declared.operation.Task.{Task}
 use Rattle.codec.specs.declared.operation.Calculation.{Calculation}
 use Rattle.codec.specs.declared.refusal.Refusal.{Refusal}
 use Rattle.engine.specs.Rules.{highsOf, product}
 use Rattle.engine.specs.Addresses.{address}
 use Rattle.engine.specs.Registers.{shapeOf, nextChunk, reg}
 use Rattle.engine.specs.Configure.{Covers}
+use Rattle.engine.specs.Lanes.{outcomeCount}
 use Rattle.engine.specs.Calculate.{World, given}
-use Rattle.engine.specs.Allowed.{Opens, lowOf, highOf, Lies, OpenLie}
+use Rattle.engine.specs.Allowed.{Opens, lowOf, highOf, Lies, OpenLie, SomeLanes}
 use Rattle.engine.specs.declared.register.State.the-variants.{Configuring, Open, Finished}
 use Rattle.engine.specs.declared.register.Register.{Register}
 
@@ -93,23 +95,24 @@ pub data WantedInside (x : Refusal) (operand len : ℕ) (r : Register) (vs : Lis
   lacking : numberOf x ≡ 14 → operandOf x ≡ operand → FirstOutside len r vs (laneOf x) → WantedInside x operand len r vs Later
   later : OpenLie len r vs → Later → WantedInside x operand len r vs Later
 
--- "first source, second source, destination in turn (5, 11, 10), then 12, 13, and 14 in that turn": on first source a, second source b,
--- destination d, with n lanes of a and m of b
-abbrev pub CalculationRefusedOn : ℕ → ℕ → ℕ → ℕ → Register → Register → Register → Refusal → Type 0
-CalculationRefusedOn vl len n m a b d x =
+-- "first source, second source, destination in turn (5, 11, 10), then 12, 13, and 14 in that turn"; 02, 2/14: "18 .., after 13 and before 14":
+-- of what a calculation does, on first source a, second source b, destination d, with n lanes of a and m of b
+abbrev pub CalculationRefusedOn : Task → ℕ → ℕ → ℕ → ℕ → Register → Register → Register → Refusal → Type 0
+CalculationRefusedOn t vl len n m a b d x =
     AsSource a x
     (AsSource b x
     (AsDestination d x
     (Wanted x 12 ((a .width ≡ b .width) × (d .state ≡ Open → a .width ≡ d .width))
-    (Wanted x 13 ((n ≡ m) × (d .state ≡ Open → n ≤ length (nextChunk vl d)))
+    (Wanted x 13 ((n ≡ m) × (d .state ≡ Open → outcomeCount t n ≤ length (nextChunk vl d)))
+    (Wanted x 18 (SomeLanes t n)
     (WantedInside x 0 len a (nextChunk vl a)
     (WantedInside x 1 len b (nextChunk vl b)
-    (WantedInside x 2 len d (take n (nextChunk vl d)) ⊥)))))))
+    (WantedInside x 2 len d (take (outcomeCount t n) (nextChunk vl d)) ⊥))))))))
 
 -- a calculation is refused with x in a world: on the registers that it names
 abbrev pub CalculationRefused : ℕ → Calculation → World → Refusal → Type 0
 CalculationRefused vl c w x =
-    CalculationRefusedOn vl (length (w .memory))
+    CalculationRefusedOn (c .task) vl (length (w .memory))
     (length (given vl (w .memory) (reg (w .machine) (c .first))))
     (length (given vl (w .memory) (reg (w .machine) (c .second))))
     (reg (w .machine) (c .first))

@@ -5,7 +5,7 @@
 --   WholePass, pass-whole      a pass that is done did the whole body
 --   Repeats, repeat-ran            what the passes of a run did
 --   ran-good                   the registers are good after it
-use Prim.Native.Nat.{ℕ, zero, suc, _+_, _<_}
+use Prim.Native.Nat.{ℕ, zero, suc, _+_, _≤_, _<_}
 use mathlib.Core.Path.{_≡_, refl, sym, _∙_, ap, subst}
 use mathlib.Core.List.{List, [], _∷_, _++_, append-assoc}
 use mathlib.Core.Bool.{Bool, true, false, cond}
@@ -205,9 +205,9 @@ repeat-ran vl loop body (suc n) g v =
     go true o Done e ih = one-more vl loop body g (pass vl body g) _ o (pass-whole vl body g v e) (ih (counted (pass vl body g)) e)
 
 -- the registers are good after it
-pub ran-good : (vl loop : ℕ) (body : List Placed) (g r : Progress) → AllNamed body → AllGood vl (g .world .machine) → Repeats vl loop body g r → AllGood vl (r .world .machine)
-ran-good vl loop body g r nm a q =
+pub ran-good : (vl loop : ℕ) (body : List Placed) (g r : Progress) → 8 ≤ vl → AllNamed body → AllGood vl (g .world .machine) → Repeats vl loop body g r → AllGood vl (r .world .machine)
+ran-good vl loop body g r l nm a q =
     subst (λ w. AllGood vl (w .machine)) (sym (q .world))
-    (after-good vl (times (q .rounds) body ++ take (q .rest) body) (g .world)
+    (after-good vl (times (q .rounds) body ++ take (q .rest) body) (g .world) l
     (named-append (times (q .rounds) body) (take (q .rest) body) (named-times (q .rounds) body nm) (named-take (q .rest) body nm))
     a (q .completed))

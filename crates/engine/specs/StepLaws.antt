@@ -5,7 +5,7 @@
 --   step-good, pass-good       the registers are good after a step, and after a pass, refused or not
 use mathlib.Core.Path.{_≡_, refl, sym, ap, subst}
 use mathlib.Core.List.{List, _∷_}
-use Prim.Native.Nat.{ℕ}
+use Prim.Native.Nat.{ℕ, _≤_}
 use lib.ListN.{take}
 use Rattle.codec.specs.declared.refusal.Refusal.{Refusal}
 use Rattle.engine.specs.Calculate.{refusalOf, effect}
@@ -41,15 +41,15 @@ unfolding passBy
 pass-stop vl c cs g x at e = ap (λ d. unlessRefused d (step vl c g) (pass vl cs (step vl c g))) e
 
 -- the registers are good after a step, refused or not
-pub step-good : (vl : ℕ) (c : Placed) (g : Progress) → Named (c .calculation) → AllGood vl (g .world .machine) → AllGood vl (step vl c g .world .machine)
-step-good vl c g nm a = go (refusalOf vl (c .calculation) (g .world)) refl
+pub step-good : (vl : ℕ) (c : Placed) (g : Progress) → 8 ≤ vl → Named (c .calculation) → AllGood vl (g .world .machine) → AllGood vl (step vl c g .world .machine)
+step-good vl c g l nm a = go (refusalOf vl (c .calculation) (g .world)) refl
   where
     go : (y : Why) → refusalOf vl (c .calculation) (g .world) ≡ y → AllGood vl (stepped y (c .place) (effect vl (c .calculation) (g .world)) g .world .machine)
-    go Nothing e = effect-good vl (c .calculation) (g .world) a nm e
+    go Nothing e = effect-good vl (c .calculation) (g .world) l a nm e
     go (Because x) e = a
 
 -- and after a pass
-pub pass-good : (vl : ℕ) (cs : List Placed) (g : Progress) → g .verdict ≡ Done → AllNamed cs → AllGood vl (g .world .machine) → AllGood vl (pass vl cs g .world .machine)
-pass-good vl cs g v nm a =
+pub pass-good : (vl : ℕ) (cs : List Placed) (g : Progress) → 8 ≤ vl → g .verdict ≡ Done → AllNamed cs → AllGood vl (g .world .machine) → AllGood vl (pass vl cs g .world .machine)
+pass-good vl cs g l v nm a =
     let p = pass-ran vl cs g v in
-    subst (λ w. AllGood vl (w .machine)) (sym (p .world)) (after-good vl (take (p .rest) cs) (g .world) (named-take (p .rest) cs nm) a (p .completed))
+    subst (λ w. AllGood vl (w .machine)) (sym (p .world)) (after-good vl (take (p .rest) cs) (g .world) l (named-take (p .rest) cs nm) a (p .completed))

@@ -1,6 +1,8 @@
 // One calculation on three running registers and a lent memory: every check first, then everything moves.
 use crate::ahead::Ahead;
 use crate::check::Why;
+use crate::fold::lacks_lanes;
+use crate::fold::outcome_count;
 use crate::operand::after_read;
 use crate::operand::after_write;
 use crate::operand::as_destination;
@@ -12,11 +14,11 @@ use crate::operand::unmoved;
 use crate::running::Running;
 use crate::states::why_states;
 use crate::states::widths_differ;
-use crate::transfer::combine_lanes;
+use crate::transfer::calculate_lanes;
 use crate::transfer::look_at;
 use crate::transfer::read_parts;
 use crate::transfer::write_parts;
-use codec::operation::Action;
+use codec::operation::Task;
 use codec::refusal::Refusal;
 use codec::refusal::Role;
 ghost use mathlib.Core.Path.{_≡_};
@@ -67,22 +69,23 @@ fn lanes(vl: u64, width: u64) -> usize
     (vl / width) as usize
 }
 
-// Whether the sources' lanes differ in number, or exceed the store's chunk: 13.
-fn lanes_differ(n: usize, m: usize, z: Ahead) -> bool
-    ensures { λ r. ⌜ r ≡ (not (eqb n m) || z .live && ltb (z .count) n) ⌝ }
+// Whether the sources' lanes differ in number, or the `k` lanes of the result exceed the store's chunk: 13.
+fn lanes_differ(n: usize, m: usize, k: usize, z: Ahead) -> bool
+    ensures { λ r. ⌜ r ≡ (not (eqb n m) || z .live && ltb (z .count) k) ⌝ }
 {
     if n != m {
         return true;
     }
     if z.live {
-        return z.count < n;
+        return z.count < k;
     }
     false
 }
 
-// The checks of a calculation in document 01's order, on first source `a` of register `i`, second source `b` of register `j` and
+// The checks of a calculation in document 01's order, 18 between 13 and 14: of what it does, on first source `a` of register `i`, second source `b` of register `j` and
 // destination `d` of register `t`. The sources are the same register if `same`.
 pub(crate) fn check_calculation(
+    task: Task,
     vl: u64,
     same: bool,
     a: Running,
@@ -105,7 +108,7 @@ pub(crate) fn check_calculation(
     requires { ⌜ (length (now xs) ≡ 64) × ((length (now ys) ≡ 64) × (length (now zs) ≡ 64)) ⌝ }
     requires { ⌜ Fit vl (patternAt (now shapes) (now places) i) (now va) a × (Fit vl (patternAt (now shapes) (now places) j) (now vb) b × Fit vl (patternAt (now shapes) (now places) t) (now vd) d) ⌝ }
     requires { ⌜ (same ≡ true → (b ≡ a) × ((j ≡ i) × (now vb ≡ now va))) ⌝ }
-    ensures { λ r. ⌜ Cleared vl len same (patternAt (now (shapes .entry)) (now (places .entry)) i) (patternAt (now (shapes .entry)) (now (places .entry)) j) (patternAt (now (shapes .entry)) (now (places .entry)) t) a b d (now (va .entry)) (now (vb .entry)) (now (vd .entry)) (now (va .exit)) (now (vb .exit)) (now (vd .exit)) (now (xs .exit)) (cond same (now (xs .exit)) (now (ys .exit))) (now (zs .exit)) r ⌝ }
+    ensures { λ r. ⌜ Cleared task vl len same (patternAt (now (shapes .entry)) (now (places .entry)) i) (patternAt (now (shapes .entry)) (now (places .entry)) j) (patternAt (now (shapes .entry)) (now (places .entry)) t) a b d (now (va .entry)) (now (vb .entry)) (now (vd .entry)) (now (va .exit)) (now (vb .exit)) (now (vd .exit)) (now (xs .exit)) (cond same (now (xs .exit)) (now (ys .exit))) (now (zs .exit)) r ⌝ }
     ensures { λ _. ⌜ (length (now (xs .exit)) ≡ 64) × ((length (now (ys .exit)) ≡ 64) × (length (now (zs .exit)) ≡ 64)) ⌝ }
 {
     let why = why_states(a, b, d);
@@ -119,9 +122,13 @@ pub(crate) fn check_calculation(
     let x = as_source(a, most, &shapes[i], &places[i], va, xs);
     let n = x.count;
     let y = second_source(same, x, va, xs, b, most, &shapes[j], &places[j], vb, ys);
-    let z = as_destination(d, n, &shapes[t], &places[t], vd, zs);
-    if lanes_differ(n, y.count, z) {
+    let k = outcome_count(task, n);
+    let z = as_destination(d, k, &shapes[t], &places[t], vd, zs);
+    if lanes_differ(n, y.count, k, z) {
         return refused(Why::Because(Refusal::LaneCounts));
+    }
+    if lacks_lanes(task, n) {
+        return refused(Why::Because(Refusal::NoLanes));
     }
     let one = outside(Role::First, x, a.width, len, xs);
     let Why::Nothing = one else {
@@ -201,7 +208,7 @@ fn write_destination(
 
 // Everything moves: both sources are read, the lanes are calculated and written, in this order.
 pub(crate) fn carry_out(
-    action: Action,
+    task: Task,
     same: bool,
     width: u64,
     a: Running,
@@ -218,22 +225,23 @@ pub(crate) fn carry_out(
     ld: &mut [u8; 64],
     memory: &mut [u8],
 ) -> Outcome
-    requires { ⌜ Within (length (now memory)) width x y z (now xs) (cond same (now xs) (now ys)) (now zs) ⌝ }
+    requires { ⌜ Within task (length (now memory)) width x y z (now xs) (cond same (now xs) (now ys)) (now zs) ⌝ }
     requires { ⌜ (x .live ≡ true → a .moved + x .count < 2 ^ 32) × ((y .live ≡ true → b .moved + y .count < 2 ^ 32) × (z .live ≡ true → d .moved + z .count < 2 ^ 32)) ⌝ }
     requires { ⌜ (same ≡ true → (y ≡ x) × (now lb ≡ now la)) ⌝ }
-    ensures { λ r. ⌜ Carries action width (now (memory .entry)) a b d x y z (now (xs .entry)) (cond same (now (xs .entry)) (now (ys .entry))) (now (zs .entry)) (now (la .entry)) (now (lb .entry)) (now (ld .entry)) r (now (la .exit)) (now (lb .exit)) (now (ld .exit)) (now (memory .exit)) ⌝ }
+    ensures { λ r. ⌜ Carries task width (now (memory .entry)) a b d x y z (now (xs .entry)) (cond same (now (xs .entry)) (now (ys .entry))) (now (zs .entry)) (now (la .entry)) (now (lb .entry)) (now (ld .entry)) r (now (la .exit)) (now (lb .exit)) (now (ld .exit)) (now (memory .exit)) ⌝ }
 {
     let n = x.count;
+    let k = outcome_count(task, n);
     read_source(x, width, memory, xs, la);
     read_second(same, la, y, width, memory, ys, lb);
     let one = look_at(la);
     let other = look_at(lb);
     let mut out = [0u8; 64];
-    combine_lanes(action, width, n, la, lb, &mut out);
-    write_destination(z, width, n, &out, memory, zs, ld);
+    calculate_lanes(task, width, n, la, lb, &mut out);
+    write_destination(z, width, k, &out, memory, zs, ld);
     Outcome {
         first: after_read(a, x, width),
         second: after_read(b, y, width),
-        destination: after_write(d, z, width, n),
+        destination: after_write(d, z, width, k),
     }
 }

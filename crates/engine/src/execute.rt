@@ -51,6 +51,7 @@ pub(crate) fn execute(
         while k < n {
             let step = steps[k];
             let c = step.calculation;
+            let task = c.task;
             let i = c.first;
             let j = c.second;
             let t = c.destination;
@@ -61,6 +62,7 @@ pub(crate) fn execute(
             let mut vb = indices[j];
             let mut vd = indices[t];
             let o = check_calculation(
+                task,
                 vl,
                 i == j,
                 a,
@@ -93,12 +95,11 @@ pub(crate) fn execute(
             let mut la = lanes[i];
             let mut lb = lanes[j];
             let mut ld = lanes[t];
-            let action = c.action;
             let first = o.first;
             let second = o.second;
             let destination = o.destination;
             let e = carry_out(
-                action,
+                task,
                 i == j,
                 a.width,
                 a,

@@ -5,6 +5,7 @@ mod calculate;
 pub mod check;
 pub mod configure;
 mod execute;
+mod fold;
 mod gain;
 mod height;
 mod lane;

@@ -12,6 +12,7 @@ use codec::operation::Body;
 use codec::operation::Calculation;
 use codec::operation::Decoded;
 use codec::operation::Operation;
+use codec::operation::Task;
 use codec::operation::decode;
 use codec::operation::decode_calculation;
 use codec::refusal::Refusal;
@@ -61,7 +62,7 @@ pub(crate) fn no_steps() -> Steps
     ensures { λ r. ⌜ r .count ≡ 0 ⌝ }
 {
     let calculation = Calculation {
-        action: Action::Copy,
+        task: Task::Each(Action::Copy),
         destination: 0,
         first: 0,
         second: 0,

@@ -2,6 +2,7 @@
 // one row: a start, a step and a count.
 use crate::address::plus;
 use crate::address::times;
+use crate::fold::fold_lanes;
 use crate::lane::lane;
 use crate::memory::inside;
 use crate::memory::load;
@@ -9,6 +10,7 @@ use crate::memory::place;
 use crate::memory::store;
 use codec::amounts::Bytes;
 use codec::operation::Action;
+use codec::operation::Task;
 ghost use mathlib.Core.Path.{_≡_};
 ghost use mathlib.Core.Bool.{true};
 ghost use mathlib.Core.List.{[]};
@@ -20,7 +22,7 @@ ghost use Rattle.engine.specs.Loops.{natural};
 ghost use Rattle.engine.specs.Addresses.{inside};
 ghost use Rattle.engine.specs.Memory.{valueAt, littleEndian, lanesFrom, joined, packed};
 ghost use Rattle.engine.specs.ByteLaws.{Bytewise};
-ghost use Rattle.engine.specs.Lanes.{lane, lanewise};
+ghost use Rattle.engine.specs.Lanes.{lane, lanewise, outcome};
 ghost use Rattle.engine.specs.Stretches.{progression, joinedIn, Part, allWithin, laneWithout, checkedAt, fetchedAt, storedAt};
 
 // What the address check found: every element lies inside, or the first lane outside, counted from 0.
@@ -293,7 +295,7 @@ fn is_copy(action: Action) -> bool
 }
 
 // The action on the first `n` lanes of two sources, lane by lane, zeros behind. A copy needs no numbers.
-pub(crate) fn combine_lanes(
+fn combine_lanes(
     action: Action,
     width: u64,
     n: usize,
@@ -317,5 +319,26 @@ pub(crate) fn combine_lanes(
         let b = load(second, at, width);
         store(out, at, width, lane(action, width, a, b));
         k += 1;
+    }
+}
+
+// What a calculation does, of the first `n` lanes of two sources: lane by lane, or a single lane over all of the first's, zeros behind.
+pub(crate) fn calculate_lanes(
+    task: Task,
+    width: u64,
+    n: usize,
+    first: &[u8; 64],
+    second: &[u8; 64],
+    out: &mut [u8; 64],
+)
+    requires { ⌜ ((1 ≤ width) × (width ≤ 8)) × (n * width ≤ 64) ⌝ }
+    ensures { λ _. ⌜ now (out .exit) ≡ packed width (outcome task (8 * width) (lanesFrom (now (first .entry)) width 0 n) (lanesFrom (now (second .entry)) width 0 n)) ⌝ }
+{
+    match task {
+        Task::Each(action) => combine_lanes(action, width, n, first, second, out),
+        Task::All(fold) => {
+            *out = [0u8; 64];
+            store(out, 0, width, fold_lanes(fold, width, n, first));
+        }
     }
 }

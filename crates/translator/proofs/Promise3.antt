@@ -96,7 +96,7 @@ module _ (m : Nest) (ac : Accepted m) (vl : ℕ) (memory : List ℕ) (fits : Fit
   steps : InStep vl (threeOf m) (calculationOf m) 0 (world (s .machine) memory)
   steps = record {
     named = record { first = omega arith; second = omega arith; destination = omega arith };
-    action = refl;
+    task = refl;
     not-first = λ e. omega arith;
     not-second = λ e. omega arith;
     good = sheet-run .running .good;
@@ -116,7 +116,7 @@ module _ (m : Nest) (ac : Accepted m) (vl : ℕ) (memory : List ℕ) (fits : Fit
     -- the run, chunk by chunk
     chunked : StepsDone vl (threeOf m) (shapeOf m) 0 memory (execute vl 1 (one ∷ []) (world (s .machine) memory))
     chunked =
-        in-step vl (threeOf m) (shapeOf m) (record { first = refl; second = refl; destination = refl }) (covers m ac)
+        in-step vl (threeOf m) (shapeOf m) (record { first = refl; second = refl; destination = refl }) (covers m ac) (fits .least)
         (lanes-some (m .width) vl (fits .least)) one 1 (inl refl) (world (s .machine) memory) steps
         (record {
           first = lie (m .first) (λ k h. inside k h .first);

@@ -21,6 +21,7 @@ use Rattle.codec.specs.declared.operation.Parameter.the-variants.{Size}
 use Rattle.codec.specs.declared.operation.Dimension.{Dimension}
 use Rattle.codec.specs.declared.operation.Operation.{Operation}
 use Rattle.codec.specs.declared.operation.Operation.the-variants as op
+use Rattle.codec.specs.declared.operation.Task.the-variants.{Each}
 use Rattle.codec.specs.declared.operation.Calculation.{Calculation}
 use Rattle.engine.specs.Addresses.{noBytes, noElements}
 use Rattle.engine.specs.Registers.{noModifier}
@@ -133,7 +134,7 @@ runOp = op.Run 1 1
 
 -- the one calculation: the nest's operation of registers 1 and 2, to register 3
 abbrev pub calculationOf : Nest → Calculation
-calculationOf m = record { action = m .action; destination = 3; first = 1; second = 2 }
+calculationOf m = record { task = Each (m .action); destination = 3; first = 1; second = 2 }
 
 -- the bytes of the sheet, "header bits 19-15 and 23-22 zero"
 unfoldable pub sheetOf : Nest → List ℕ

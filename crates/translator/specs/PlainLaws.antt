@@ -2,16 +2,16 @@
 -- them reads what an earlier one wrote.
 --
 --   threeOf                        a nest's operation, width and patterns
---   free, value-sets               elements that share no byte; a value apart from what was written
+--   free                           elements that share no byte
 --   one-chunk                      one chunk
-use Prim.Native.Nat.{ℕ, zero, suc, _+_, _*_, _≤_, _<_}
+use Prim.Native.Nat.{ℕ, suc, _+_, _*_, _≤_, _<_}
 use mathlib.Core.Path.{_≡_, refl, sym, _∙_, ap, ap₂}
 use mathlib.Core.Logic.{_⊎_, inl, inr, ⊎-elim}
 use mathlib.Core.List.{List, [], _∷_, map}
 use native.Mathlib.Omega.{arith}
 use native.Mathlib.Decide.{decLt}
-use lib.ListN.{length, getD, set}
-use lib.Seq.{sets, getD-set-other}
+use lib.ListN.{getD}
+use lib.Seq.{sets}
 use lib.Dec.{le→leb}
 use lib.IntN.{ℤ, pos, negsuc}
 use lib.Signed.{_≤ℤ_}
@@ -21,7 +21,7 @@ use Rattle.codec.specs.Headers.{bytesOf}
 use Rattle.engine.specs.Loops.{natural}
 use Rattle.engine.specs.Members.{Each}
 use Rattle.engine.specs.Memory.{valueAt, littleEndian, spot, fetch, stored}
-use Rattle.engine.specs.ByteLaws.{length-little}
+use Rattle.engine.specs.ByteLaws.{length-little, value-sets}
 use Rattle.engine.specs.Lanes.{lane, lanewise}
 use Rattle.engine.specs.InStep.{Three, chunkDone}
 use Rattle.translator.specs.Nests.{widthOf, placeOf, visited, plainOver}
@@ -62,23 +62,6 @@ free w (pos k) (pos j) o h l f = go (decLt j (k + w)) (decLt k (j + w)) (decLt k
     go (yes p) (no q) r = inr (omega arith)
     go (yes p) (yes q) (yes r) = absurd (f j (byte-of w j j (omega arith) (omega arith)) (byte-of w k j (omega arith) p))
     go (yes p) (yes q) (no r) = absurd (f k (byte-of w j k (omega arith) q) (byte-of w k k (omega arith) (omega arith)))
-
--- a byte apart from what was written
-getD-sets : (bytes memory : List ℕ) (j i : ℕ) → (i < j) ⊎ (j + length bytes ≤ i) → getD (sets memory j bytes) i 0 ≡ getD memory i 0
-getD-sets [] memory j i h = refl
-getD-sets (x ∷ bytes) memory j i h =
-    getD-sets bytes (set memory j x) (suc j) i (⊎-elim (λ p. inl (omega arith)) (λ p. inr (omega arith)) h)
-    ∙ getD-set-other memory j i x 0 (⊎-elim (λ p e. omega arith) (λ p e. omega arith) h)
-
--- a value apart from what was written
-value-sets : (w k : ℕ) (bytes memory : List ℕ) (j : ℕ) → (k + w ≤ j) ⊎ (j + length bytes ≤ k) → valueAt (sets memory j bytes) k w ≡ valueAt memory k w
-unfolding valueAt
-value-sets zero k bytes memory j h = refl
-value-sets (suc w) k bytes memory j h =
-    rw (
-      getD-sets bytes memory j k (⊎-elim (λ p. inl (omega arith)) (λ p. inr (omega arith)) h),
-      value-sets w (suc k) bytes memory j (⊎-elim (λ p. inl (omega arith)) (λ p. inr (omega arith)) h),
-    )
 
 -- a width is 1 at least
 width-some : (w : Width) → 1 ≤ bytesOf w

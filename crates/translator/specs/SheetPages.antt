@@ -16,7 +16,7 @@ use lib.Seq.{sets, sets-eq, length-sets, take-append-seam}
 use lib.Dec.{eqb, leb}
 use lib.IntN.{ℤ, pos, negsuc, natAbs}
 use lib.Signed.{_≤ℤ_, nonNeg}
-use borrow.Author.Tests.{le-leb, ne-eqb}
+use borrow.Author.Tests.{le-leb, le-ltb, ne-eqb}
 use Rattle.codec.specs.Operations.{operationInRange, operationBytes, calculationInRange, calculationBytes, actionCode, isBase, bytesOfAll}
 use Rattle.codec.specs.BytewiseLaws.{all-append}
 use Rattle.codec.specs.Headers.{couplingInRange}
@@ -33,6 +33,7 @@ use Rattle.translator.specs.Fields.{termOf}
 use Rattle.translator.specs.Nests.{couplingOf}
 use Rattle.translator.specs.NestSheets.{modifierOf, modifiersAt, modifierOp, dimensionOf, dimensionOps, streamOps, sheetOps, runOp, calculationOf, sheetOf}
 use Rattle.translator.specs.Acceptance.{AccessInRange, InRange, Accepted}
+use Rattle.translator.specs.NestWritten.{action-small}
 use Rattle.translator.specs.RoomLaws.{sheet-most}
 use Rattle.translator.specs.Pages.{Blank, putOne, putAll, putCalculation, SheetPage}
 use Rattle.translator.specs.declared.nest.Access.{Access}
@@ -177,7 +178,7 @@ blank-on b bytes e h = record {
 
 -- the calculation of a nest in range can be written: it is no copy
 calculation-in : (m : Nest) → InRange m → calculationInRange (calculationOf m) ≡ true
-calculation-in m r = rw (ne-eqb (actionCode (m .action)) 0 (λ e. omega (arith, r .operation)))
+calculation-in m r = rw (ne-eqb (actionCode (m .action)) 0 (λ e. omega (arith, r .operation)), le-ltb 7 (actionCode (m .action)) (action-small (m .action)))
 
 -- the page of an accepted nest
 module _ (m : Nest) (p : Page) (a : Accepted m) (s : SheetPage m p) where

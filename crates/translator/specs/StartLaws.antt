@@ -5,7 +5,7 @@
 --   Started, started         the machine that the operations leave, and the run behind them
 use Prim.Native.Nat.{ℕ, _+_, _≤_, _<_}
 use mathlib.Core.Path.{_≡_, refl, _∙_, ap, subst}
-use mathlib.Core.Logic.{_≢_}
+use mathlib.Core.Logic.{_≢_, ⊎-elim}
 use mathlib.Core.List.{List, [], _∷_, _++_}
 use native.Mathlib.Omega.{arith}
 use lib.ListN.{length}
@@ -32,6 +32,7 @@ use Rattle.translator.specs.Fields.{Role, first, second, destination, ac
 use Rattle.translator.specs.Nests.{widthOf}
 use Rattle.translator.specs.NestSheets.{streamOf, patternFor, streamOps, sheetOps, runOp, calculationOf, sheetOf}
 use Rattle.translator.specs.Acceptance.{Accepted}
+use Rattle.translator.specs.NestWritten.{action-small}
 use Rattle.translator.specs.PatternLaws.{tidy-access, pattern-same}
 use Rattle.translator.specs.NestStreams.{stream-gives}
 use Rattle.translator.specs.declared.nest.Nest.{Nest}
@@ -217,7 +218,7 @@ module _ (m : Nest) (ac : Accepted m) where
           destination = omega arith;
           first = omega arith;
           second = omega arith;
-          copy = λ e. absurd (omega (arith, ac .range .operation));
+          alone = ⊎-elim (λ e. absurd (omega (arith, ac .range .operation))) (λ e. absurd (omega (arith, action-small (m .action))));
           stands = stands-back (sheetOf m) (operationBytes 0 runOp) (calculationBytes (calculationOf m)) at3 (length (sheetOf m)) run-stands;
         });
   }

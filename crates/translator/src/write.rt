@@ -10,6 +10,7 @@ use codec::operation::Calculation;
 use codec::operation::Dimension;
 use codec::operation::Modifier;
 use codec::operation::Operation;
+use codec::operation::Task;
 use codec::writing::Written;
 use codec::writing::put_calculation;
 use codec::writing::put_operation;
@@ -170,7 +171,7 @@ pub(crate) fn sheet_page(m: Nest) -> Page
     let three = put_stream(two, m, 3, Kind::Store, m.destination);
     let four = put(three, Operation::Run(1, 1));
     let calculation = Calculation {
-        action,
+        task: Task::Each(action),
         destination: 3,
         first: 1,
         second: 2,

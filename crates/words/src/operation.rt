@@ -12,9 +12,11 @@ use codec::operation::Action;
 use codec::operation::Behaviour;
 use codec::operation::Calculation;
 use codec::operation::Dimension;
+use codec::operation::Fold;
 use codec::operation::Modifier;
 use codec::operation::Operation;
 use codec::operation::Parameter;
+use codec::operation::Task;
 
 // How many dimensions and modifiers a register has been given since it was opened.
 pub struct Given {
@@ -150,11 +152,8 @@ fn between(first: usize, sign: &[u8], second: usize) {
     register(second);
 }
 
-// Writes a calculation in words.
-pub fn calculation(c: Calculation) {
-    let action = c.action;
-    register(c.destination);
-    say(b" = ");
+// Writes an action on two sources in words.
+fn lane_by_lane(action: Action, c: Calculation) {
     match action {
         Action::Copy => register(c.first),
         Action::Add => between(c.first, b" + ", c.second),
@@ -169,6 +168,30 @@ pub fn calculation(c: Calculation) {
         Action::Larger => {
             say(b"signed larger of ");
             between(c.first, b" and ", c.second);
+        }
+    }
+}
+
+// Writes what a fold is of, in words.
+fn over_all(fold: Fold) {
+    match fold {
+        Fold::Sum => say(b"sum of "),
+        Fold::Smallest => say(b"signed smallest of "),
+        Fold::Largest => say(b"signed largest of "),
+        Fold::FirstLargest => say(b"lane of the first signed largest of "),
+    }
+}
+
+// Writes a calculation in words.
+pub fn calculation(c: Calculation) {
+    let task = c.task;
+    register(c.destination);
+    say(b" = ");
+    match task {
+        Task::Each(action) => lane_by_lane(action, c),
+        Task::All(fold) => {
+            over_all(fold);
+            register(c.first);
         }
     }
 }

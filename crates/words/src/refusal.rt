@@ -1,4 +1,4 @@
-// Refusals in words: document 01's table.
+// Refusals in words: document 01's table, then document 02's.
 use crate::outside::lane_outside;
 use crate::text::decimal;
 use crate::text::say;
@@ -39,6 +39,7 @@ fn meaning(r: Refusal) {
             b"the loop register is no open or finished load stream, or no calculation has it as a source",
         ),
         Refusal::NoRoom => say(b"there is no room for the translated sheet"),
+        Refusal::NoLanes => say(b"no lanes for a smallest, a largest or a first largest"),
     }
 }
 
@@ -50,7 +51,7 @@ fn hint(r: Refusal) {
             b"seven bits to a byte, lowest first, 80h added to all but the last; below 2^32, no 00 at the end",
         ),
         Refusal::OutOfRange => say(
-            b"registers 0 to 31, sizes to 4,096, other amounts to 1,048,576, calculations 1 to 16; a copy names its source twice; the run is last",
+            b"registers 0 to 31, sizes to 4,096, other amounts to 1,048,576, calculations 1 to 16; a copy, and a calculation over all lanes, names its source twice; the run is last",
         ),
         Refusal::FixedBits => say(
             b"bits 6-0 are 0001011, 21-20 and 26-25 are 00; 29-27 are 000 if 30 is clear, and never 111",
@@ -85,6 +86,7 @@ fn hint(r: Refusal) {
         ),
         Refusal::LoopRegister => say(b"end its stream before the run, and read it in the body"),
         Refusal::NoRoom => say(b"1,024 bytes always suffice"),
+        Refusal::NoLanes => say(b"a fresh register has no lanes; only the sum of none is told: 0"),
     }
 }
 

@@ -1,4 +1,4 @@
-//! Lanes: 64 bytes at a time. Zeros behind the valid lanes stay zeros under every operation.
+//! Lanes: 64 bytes at a time. Zeros behind the valid lanes stay zeros under the operations 0 to 7.
 
 use crate::walk::Ahead;
 
@@ -27,7 +27,7 @@ macro_rules! by_width {
     };
 }
 
-/// What an operation makes of two sources of this width code.
+/// What one of the operations 0 to 7 makes of two sources of this width code.
 pub fn calculate(operation: u8, code: u8, a: &Lanes, b: &Lanes) -> Lanes {
     use std::ops::{BitAnd, BitOr, BitXor};
     match operation {
@@ -39,6 +39,35 @@ pub fn calculate(operation: u8, code: u8, a: &Lanes, b: &Lanes) -> Lanes {
         5 => each!(u64, 8, a, b, u64::bitxor),
         6 => by_width!(code, a, b, min),
         _ => by_width!(code, a, b, max),
+    }
+}
+
+macro_rules! over_all {
+    ($kind:ty, $bytes:literal, $operation:ident, $lanes:ident, $n:ident) => {{
+        let valid = &$lanes[..$bytes * $n];
+        let mut lanes = valid.chunks_exact($bytes).map(|bytes| <$kind>::from_le_bytes(bytes.try_into().unwrap()));
+        let answer: $kind = match $operation {
+            8 => lanes.fold(0, <$kind>::wrapping_add),
+            9 => lanes.fold(<$kind>::MAX, <$kind>::min),
+            10 => lanes.fold(<$kind>::MIN, <$kind>::max),
+            _ => {
+                let most = lanes.clone().fold(<$kind>::MIN, <$kind>::max);
+                lanes.position(|lane| lane == most).unwrap_or(0) as $kind
+            }
+        };
+        let mut out = [0; 64];
+        out[..$bytes].copy_from_slice(&answer.to_le_bytes());
+        out
+    }};
+}
+
+/// What one of the operations 8 to 11 makes of the first `n` lanes of this width code; there is one at least for 9 to 11.
+pub fn fold(operation: u8, code: u8, lanes: &Lanes, n: usize) -> Lanes {
+    match code {
+        0 => over_all!(i8, 1, operation, lanes, n),
+        1 => over_all!(i16, 2, operation, lanes, n),
+        2 => over_all!(i32, 4, operation, lanes, n),
+        _ => over_all!(i64, 8, operation, lanes, n),
     }
 }
 

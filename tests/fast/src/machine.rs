@@ -1,6 +1,6 @@
 //! The registers, and one calculation on them.
 
-use crate::lanes::{calculate, gather, scatter, Lanes};
+use crate::lanes::{calculate, fold, gather, scatter, Lanes};
 use crate::walk::{Ahead, Stream};
 
 pub const PLAIN: u8 = 0;
@@ -91,16 +91,22 @@ impl Machine {
         if a != b && n != look(&self.registers[b], lanes, &mut self.second) {
             return Err(13);
         }
-        if stores && n > 0 {
-            // No further than n: what lies behind is looked at when it is reached.
-            self.registers[d].stream.look(n, &mut self.destination);
-            if self.destination.n < n {
+        let folds = c.operation >= 8;
+        let taken = if folds { 1 } else { n };
+        let writes = stores && taken > 0;
+        if writes {
+            // No further than what is taken: what lies behind is looked at when it is reached.
+            self.registers[d].stream.look(taken, &mut self.destination);
+            if self.destination.n < taken {
                 return Err(13);
             }
         }
+        if n == 0 && c.operation > 8 {
+            return Err(18);
+        }
         let (width, length) = (1 << code, memory.len() as i64);
         let reads = |register: usize| self.registers[register].state == OPEN;
-        let looked = [(reads(a), &self.first), (a != b && reads(b), &self.second), (stores && n > 0, &self.destination)];
+        let looked = [(reads(a), &self.first), (a != b && reads(b), &self.second), (writes, &self.destination)];
         for (operand, (moves, ahead)) in looked.into_iter().enumerate() {
             if moves && !ahead.inside(width, length) {
                 self.outside = [ahead.first_outside(width, length), operand as u64];
@@ -111,13 +117,17 @@ impl Machine {
         if a != b {
             read(&mut self.registers[b], &self.second, memory);
         }
-        let result = calculate(c.operation, code, &self.registers[a].lanes, &self.registers[b].lanes);
+        let result = if folds {
+            fold(c.operation, code, &self.registers[a].lanes, n)
+        } else {
+            calculate(c.operation, code, &self.registers[a].lanes, &self.registers[b].lanes)
+        };
         let destination = &mut self.registers[d];
         if !stores {
             destination.code = code;
-            destination.valid = n as u8;
+            destination.valid = taken as u8;
             destination.lanes = result;
-        } else if n > 0 {
+        } else if writes {
             scatter(memory, code, &self.destination, &result);
             move_on(destination, &self.destination);
         }

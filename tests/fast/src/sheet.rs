@@ -213,11 +213,11 @@ fn repeat(machine: &mut Machine, reader: &mut Reader, place: usize, memory: &mut
 
 fn read(reader: &mut Reader) -> Result<Calculation, u64> {
     let place = reader.place;
-    let operation = reader.upto(7)? as u8;
+    let operation = reader.upto(11)? as u8;
     let destination = reader.upto(31)? as u8;
     let first = reader.upto(31)? as u8;
     let second = reader.upto(31)? as u8;
-    if operation == 0 && first != second {
+    if (operation == 0 || operation >= 8) && first != second {
         return Err(2);
     }
     Ok(Calculation { place, operation, destination, first, second })

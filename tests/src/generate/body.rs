@@ -1,5 +1,6 @@
 //! Bodies of runs.
 
+use crate::calculation::folds;
 use crate::random::Random;
 
 /// Operation, destination, first source, second source.
@@ -25,38 +26,48 @@ impl Cast {
     }
 }
 
-fn line(random: &mut Random, destination: u64, first: u64, second: u64) -> Line {
-    let operation = if first == second { random.below(8) } else { random.range(1, 7) as u64 };
+/// A line that is read without refusal. A source that is named twice is folded in a third of them.
+pub fn line(random: &mut Random, destination: u64, first: u64, second: u64) -> Line {
+    let operation = match (first == second, random.one_in(3)) {
+        (true, true) => random.range(8, 11) as u64,
+        (true, false) => random.below(8),
+        (false, _) => random.range(1, 7) as u64,
+    };
     [operation, destination, first, second]
 }
 
 /// A body in which every load stream is read at most once, every store stream written at most once, and a plain register named as a
-/// source only after this pass wrote it: streams that step together get through it.
+/// source only after this pass wrote it: streams that step together get through it. Single lanes are joined with single lanes only.
 pub fn flowing(random: &mut Random, cast: &Cast, most: usize) -> Vec<Line> {
     let mut unread = cast.loads.clone();
     let mut stores = cast.stores.clone();
-    let mut live: Vec<u64> = Vec::new();
+    // The plain registers that this pass wrote: with as many lanes as a chunk has, or with a single one.
+    let (mut whole, mut single): (Vec<u64>, Vec<u64>) = (Vec::new(), Vec::new());
     let mut body = Vec::new();
     while body.len() < most {
-        let mut sources = [unread.clone(), live.clone()].concat();
+        let sources = [&unread[..], &whole, &single].concat();
         if sources.is_empty() {
             break;
         }
         let first = if unread.is_empty() || random.one_in(4) { random.pick(&sources) } else { random.pick(&unread) };
-        sources.push(first);
-        let second = random.pick(&sources);
+        let mut alike = if single.contains(&first) { single.clone() } else { [&unread[..], &whole].concat() };
+        alike.push(first);
+        let second = random.pick(&alike);
         unread.retain(|&register| register != first && register != second);
-        let destination = if !stores.is_empty() && (cast.plains.is_empty() || random.one_in(2)) {
-            let at = random.place(stores.len());
-            stores.swap_remove(at)
-        } else if !cast.plains.is_empty() {
-            let plain = random.pick(&cast.plains);
-            live.push(plain);
-            plain
-        } else {
+        let to_store = !stores.is_empty() && (cast.plains.is_empty() || random.one_in(2));
+        if !to_store && cast.plains.is_empty() {
             break;
-        };
-        body.push(line(random, destination, first, second));
+        }
+        let at = random.place(if to_store { stores.len() } else { cast.plains.len() });
+        let destination = if to_store { stores.swap_remove(at) } else { cast.plains[at] };
+        let line = line(random, destination, first, second);
+        if !to_store {
+            let to_single = folds(line[0]) || single.contains(&first);
+            whole.retain(|&register| register != destination);
+            single.retain(|&register| register != destination);
+            if to_single { &mut single } else { &mut whole }.push(destination);
+        }
+        body.push(line);
         if unread.is_empty() && random.one_in(3) {
             break;
         }

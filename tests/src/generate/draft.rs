@@ -1,9 +1,10 @@
 //! Sheets drafted to run through: streams that step together, a body that suits them, a memory in which they lie. And the disturbances
 //! that make such a sheet go wrong somewhere, often only after some passes.
 
-use super::body::{carried, flowing, shifting, wild, Cast, Line};
+use super::body::{carried, flowing, line, shifting, wild, Cast, Line};
 use super::plan::{modifier, Numbers, Plan, Shape};
 use super::vector_length;
+use crate::calculation::has_one_source;
 use crate::random::Random;
 use crate::stream::{Dimension, Kind, Parameter};
 
@@ -103,10 +104,10 @@ impl Draft {
         }
         while most == 16 && self.body.len() < 16 && !self.cast.plains.is_empty() {
             let plain = random.pick(&self.cast.plains);
-            self.body.push([random.below(8), random.pick(&self.cast.plains), plain, plain]);
+            self.body.push([random.below(9), random.pick(&self.cast.plains), plain, plain]);
         }
         if random.one_in(12) {
-            self.store_nothing(random);
+            self.take_nothing(random);
         }
         self.body.truncate(16);
     }
@@ -119,12 +120,17 @@ impl Draft {
         })
     }
 
-    /// A line stores the lanes of a register that has none.
-    fn store_nothing(&mut self, random: &mut Random) {
-        if let (Some(fresh), Some(&store)) = (self.unnamed(), self.cast.stores.first()) {
-            let place = random.place(self.body.len() + 1);
-            self.body.insert(place, [0, store, fresh, fresh]);
-        }
+    /// A line stores the lanes of a register that has none, or their sum, or sums them where they are.
+    fn take_nothing(&mut self, random: &mut Random) {
+        let Some(fresh) = self.unnamed() else {
+            return;
+        };
+        let (operation, destination) = match self.cast.stores.first() {
+            Some(&store) if !random.one_in(3) => (random.pick(&[0, 8]), store),
+            _ => (8, fresh),
+        };
+        let place = random.place(self.body.len() + 1);
+        self.body.insert(place, [operation, destination, fresh, fresh]);
     }
 
     /// All operations and the run.
@@ -158,7 +164,7 @@ impl Draft {
 
     fn disturb_once(&mut self, random: &mut Random) {
         let at = random.place(self.plans.len());
-        match random.below(34) {
+        match random.below(38) {
             0..=3 => self.memory -= random.range(1, self.memory.clamp(1, 24)),
             4 => self.memory = random.range(0, self.memory.max(0)),
             5 => self.plans[at].base = (self.plans[at].base + random.range(-20, 20)).max(0),
@@ -186,6 +192,8 @@ impl Draft {
             26 => self.plans[at].register = random.below(32),
             27 | 28 => self.crooked(random),
             29..=32 => self.slip(random),
+            33 | 34 => self.fold_nothing(random),
+            35 | 36 => self.misfold(random),
             _ => self.body = wild(random, &self.cast),
         }
     }
@@ -215,6 +223,37 @@ impl Draft {
         }
     }
 
+    /// A line wants the smallest or the largest lane of a register that has none. Where a store is to take it, an earlier check may
+    /// have it refused, and the store's next element may lie outside.
+    fn fold_nothing(&mut self, random: &mut Random) {
+        let Some(fresh) = self.unnamed() else {
+            return;
+        };
+        let (operation, place) = (random.range(9, 11) as u64, random.place(self.body.len() + 1));
+        let destination = match self.cast.stores.first() {
+            Some(&store) if random.one_in(2) => store,
+            _ if random.one_in(2) => fresh,
+            _ => self.cast.any(random),
+        };
+        self.body.insert(place, [operation, destination, fresh, fresh]);
+        self.body.truncate(16);
+        let memory = self.memory.clamp(0, 65_536);
+        if let Some(plan) = self.plans.iter_mut().find(|plan| plan.register == destination) {
+            if random.one_in(2) {
+                plan.put_at(memory + random.range(0, 3));
+            }
+        }
+    }
+
+    /// A line gets one of 8 to 11, or 12, as its operation, and now and then another second source.
+    fn misfold(&mut self, random: &mut Random) {
+        let at = random.place(self.body.len());
+        self.body[at][0] = random.range(8, 12) as u64;
+        if random.one_in(2) {
+            self.body[at][3] = self.cast.any(random);
+        }
+    }
+
     fn resize(&mut self, random: &mut Random, at: usize) {
         let dimensions = &mut self.plans[at].dimensions;
         let dimension = random.place(dimensions.len());
@@ -227,7 +266,7 @@ impl Draft {
         let field = random.range(1, 3) as usize;
         let register = self.cast.any(random);
         self.body[line][field] = register;
-        if field > 1 && !random.one_in(8) && self.body[line][0] == 0 {
+        if field > 1 && !random.one_in(8) && has_one_source(self.body[line][0]) {
             self.body[line][0] = random.range(1, 7) as u64;
         }
     }
@@ -241,10 +280,10 @@ impl Draft {
 
     /// A stream that a line already reads is read once more.
     fn read_again(&mut self, random: &mut Random) {
-        let line = self.body[random.place(self.body.len())];
-        let destination = if random.one_in(2) { self.cast.any(random) } else { line[1] };
+        let [_, written, read, _] = self.body[random.place(self.body.len())];
+        let destination = if random.one_in(2) { self.cast.any(random) } else { written };
         let place = random.place(self.body.len() + 1);
-        self.body.insert(place, [random.below(8), destination, line[2], line[2]]);
+        self.body.insert(place, line(random, destination, read, read));
         self.body.truncate(16);
     }
 
@@ -316,7 +355,7 @@ impl Draft {
         let (first, destination) = (random.pick(&names), random.pick(&names));
         let second = if random.one_in(3) { first } else { random.pick(&names) };
         let place = random.place(self.body.len() + 1);
-        self.body.insert(place, [random.range(1, 7) as u64, destination, first, second]);
+        self.body.insert(place, line(random, destination, first, second));
         self.body.truncate(16);
     }
 

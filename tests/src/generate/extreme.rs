@@ -183,7 +183,7 @@ fn crowd(random: &mut Random) -> Made {
     let mut run = vec![5, 0, count];
     for line in 0..count {
         let first = 2 * ((line * 3) % 16);
-        run.extend([0, (first + 1) % 32, first, first]);
+        run.extend([random.pick(&[0, 0, 8, 9, 10, 11]), (first + 1) % 32, first, first]);
     }
     operations.push(run);
     (operations, vector_length(random), random.pick(&[260, 253, 200]))
@@ -202,11 +202,11 @@ fn long_run(random: &mut Random, most: i64) -> Made {
         plan.dimensions[1].stride = stride * inner;
         operations.extend(plan.operations());
     }
-    if random.one_in(3) {
-        operations.push(vec![5, 1, 2, 1, 4, 1, 2, 0, 3, 4, 4]);
-    } else {
-        operations.push(vec![5, 1, 1, random.range(1, 7) as u64, 3, 1, 2]);
-    }
+    operations.push(match random.below(4) {
+        0 => vec![5, 1, 2, 1, 4, 1, 2, 0, 3, 4, 4],
+        1 => vec![5, 1, 2, 1, 4, 1, 2, random.range(8, 11) as u64, 3, 4, 4],
+        _ => vec![5, 1, 1, random.range(1, 7) as u64, 3, 1, 2],
+    });
     let need = if stride == 0 { 8 } else { (inner * outer) << code };
     let vl = if most == MOST { random.pick(&[32, 64]) } else { vector_length(random) };
     (operations, vl, need as usize)

@@ -1,7 +1,9 @@
-//! Inputs that are tried on every run, whatever the seed: the text's examples over many memories and vector lengths, and the longest run.
+//! Inputs that are tried on every run, whatever the seed: the text's examples over many memories and vector lengths, folds of all widths,
+//! the sheets of the mark, and the longest run.
 
 use super::nests::NestInput;
 use super::{written, SheetInput, Style};
+use crate::mark;
 use crate::numbers::unsigned;
 
 fn input(numbers: Vec<u64>, vl: u64, memory: usize) -> SheetInput {
@@ -60,6 +62,73 @@ fn outside(vl: u64) -> Vec<SheetInput> {
     inputs
 }
 
+/// A load stream of so many elements, register 1, and a store stream behind them, register 3, with a body.
+fn folded(code: u64, elements: u64, body: &[u64]) -> Vec<u64> {
+    let one = unsigned(1);
+    let load = [1, 0x408b + (code << 12), 0, 2, 1, 0, elements, one, 4, 1];
+    let store = [1, 0x018b + (code << 12), elements << code, 2, 3, 0, 9, one, 4, 3];
+    [&load[..], &store, &[5, 1, body.len() as u64 / 4], body].concat()
+}
+
+/// Lanes in rising and falling order, all equal, all but one, and at the edges of the signed range.
+fn patterns(length: usize) -> Vec<Vec<u8>> {
+    let bytes = |byte: &dyn Fn(usize) -> usize| (0..length).map(|i| byte(i) as u8).collect();
+    vec![
+        bytes(&|i| 3 * i),
+        bytes(&|i| 255 - 5 * i % 256),
+        bytes(&|_| 0),
+        bytes(&|_| 0x80),
+        bytes(&|_| 0xff),
+        bytes(&|i| if i / 8 == 1 { 0x7f } else { 0x80 }),
+        bytes(&|i| [0x00, 0x80, 0xff, 0x7f][i / 8 % 4]),
+        bytes(&|i| [0x01, 0x80, 0x80, 0x7f, 0xff][i % 5]),
+    ]
+}
+
+/// Each of 8 to 11 over chunks: kept and then folded into a store stream, into another register and into the same one; and folded at once
+/// into the store stream, of which the elements behind the one to be written lie outside, or that one does, or elements of the source.
+fn folds(vl: u64) -> Vec<SheetInput> {
+    let mut inputs = Vec::new();
+    for (operation, code) in (8..=11).flat_map(|operation| (0..4).map(move |code| (operation, code))) {
+        let lanes = vl >> code;
+        let kept = [0, 4, 1, 1, operation, 3, 4, 4, operation, 5, 4, 4, operation, 4, 4, 4];
+        let at_once = [operation, 3, 1, 1];
+        for elements in [1, 2, lanes - lanes / 2, lanes, lanes + 1, 2 * lanes + 1] {
+            for memory in patterns(((elements + 9) << code) as usize) {
+                inputs.push(SheetInput { memory, ..input(folded(code, elements, &kept), vl, 0) });
+            }
+            for memory in [2 * elements + 1, 2 * elements, 2 * elements - 1, elements] {
+                inputs.push(input(folded(code, elements, &at_once), vl, (memory << code >> 1) as usize + 1));
+                inputs.push(input(folded(code, elements, &at_once), vl, (memory << code >> 1) as usize));
+            }
+        }
+    }
+    inputs
+}
+
+/// A fold of a fresh register into a store stream, inside memory or outside, or of another width, or being configured: the checks before
+/// 18, and the one behind it.
+fn folds_of_nothing() -> Vec<SheetInput> {
+    let mut inputs = Vec::new();
+    for (operation, code) in (8..=11).flat_map(|operation| (0..4).map(move |code| (operation, code))) {
+        for base in [0, 7, 8, 9] {
+            let load = [1, 0x408b, 0, 2, 1, 0, 3, unsigned(1), 4, 1];
+            let store = [1, 0x018b + (code << 12), base, 2, 3, 0, 2, unsigned(-9), 4, 3];
+            let body = [5, 1, 2, 0, 4, 1, 1, operation, 3, 9, 9];
+            inputs.push(input([&load[..], &store, &body].concat(), 8, 8));
+            inputs.push(input([&load[..], &store[..8], &body].concat(), 8, 8));
+        }
+    }
+    inputs
+}
+
+/// Codes around 8 to 11, and second sources other than the first.
+fn folds_misread() -> Vec<SheetInput> {
+    let load = [1, 0x408b, 0, 2, 1, 0, 3, unsigned(1), 4, 1];
+    let lines = (0..=14).flat_map(|operation| [[operation, 4, 1, 1], [operation, 4, 1, 2], [operation, 4, 2, 1]]);
+    lines.map(|line| input([&load[..], &[5, 1, 1], &line].concat(), 8, 8)).collect()
+}
+
 /// 1,048,576 passes: elements of 8 bytes, one a chunk, all at one place.
 fn longest() -> Vec<u64> {
     vec![1, 0x708b, 0, 2, 1, 0, 4_096, 0, 2, 1, 0, 256, 0, 4, 1, 5, 1, 1, 0, 2, 1, 1]
@@ -77,7 +146,13 @@ pub fn sheets() -> Vec<SheetInput> {
             inputs.push(input(words(), vl, memory));
         }
         inputs.extend(outside(vl));
+        inputs.extend(folds(vl));
     }
+    for (job, vl) in mark::JOBS.iter().flat_map(|job| mark::VECTOR_LENGTHS.map(|vl| (job, vl))) {
+        inputs.push(SheetInput { style: Style::Valid, sheet: job.sheet(), vl, memory: job.memory(&mark::mark()) });
+    }
+    inputs.extend(folds_of_nothing());
+    inputs.extend(folds_misread());
     for rows in 0..=8 {
         inputs.push(input(shrinking(rows), 8, 12));
     }

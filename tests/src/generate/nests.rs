@@ -148,7 +148,7 @@ fn disturbed(random: &mut Random, nest: &mut Nest) {
     let this = random.place(depth);
     match random.below(12) {
         0 => nest.coupled = depth + random.range(0, 1) as usize,
-        1 => nest.operation = random.pick(&[0, 8, 9]),
+        1 => nest.operation = random.pick(&[0, 8, 9, 10, 11, 12]),
         2 => nest.loops[this].number = random.pick(&[4_096, 4_097, 5_000]),
         3 | 4 => many_terms(random, nest),
         5 | 6 => far_term(random, nest),
@@ -243,7 +243,7 @@ fn damaged(random: &mut Random, mut numbers: Vec<u64>) -> Vec<u8> {
                 0 => 4,
                 1 => random.pick(&[0, 8]),
                 2 => 8,
-                3 => random.pick(&[0, 8]),
+                3 => random.pick(&[0, 8, 11]),
                 _ => random.pick(&[4_097, 1_048_577, 2_097_153, 2_097_154, 4_294_967_295, 4_294_967_294]),
             };
             written(&numbers)

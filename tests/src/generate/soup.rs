@@ -1,5 +1,6 @@
 //! Loose operations on a few registers, in any order.
 
+use super::body::line;
 use super::plan::Numbers;
 use super::{vector_length, Made};
 use crate::numbers::unsigned;
@@ -72,8 +73,8 @@ fn run(random: &mut Random, registers: &[u64]) -> Numbers {
     for _ in 0..count {
         let first = register(random);
         let second = if random.one_in(2) { first } else { register(random) };
-        let operation = if first == second { random.below(8) } else { random.range(1, 7) as u64 };
-        run.extend([operation, register(random), first, second]);
+        let destination = register(random);
+        run.extend(line(random, destination, first, second));
     }
     run
 }

@@ -4,7 +4,7 @@ use mathlib.Core.Path.{_≡_, sym, _∙_}
 use Prim.Native.Nat.{ℕ}
 use Rattle.codec.specs.declared.operation.Body.{Body}
 use Rattle.codec.specs.declared.operation.Body.the-variants as body
-use Rattle.codec.specs.Operations.{isRegister, isSecond, actionCoded, calculationAt}
+use Rattle.codec.specs.Operations.{isRegister, isSecond, taskCoded, calculationAt}
 use Rattle.codec.proofs.Asked.{Asked, calculation, number}
 use borrow.Author.Needs.{needs}
 use Rattle.codec.proofs.operation.decode_calculation.Statement.{statement}
@@ -18,7 +18,7 @@ asked a = calculationAt (a .text) (a .from)
 abbrev afterSecond : ℕ → ℕ → ℕ → ℕ → ℕ → Body
 afterSecond code destination first second at =
     body.Calculation
-    (record { action = actionCoded code; destination = destination; first = first; second = second })
+    (record { task = taskCoded code; destination = destination; first = first; second = second })
     (record { at = at })
 
 abbrev afterFirst : Asked Body → ℕ → ℕ → ℕ → ℕ → Body

@@ -7,8 +7,8 @@ use borrow.Author.Needs.{needs}
 use Rattle.codec.proofs.writing.calculation_text.Statement.{statement}
 use Rattle.codec.proofs.writing.calculation_text.Tie as tie
 
-action-code-requires : tie.Need-action-code-requires
-action-code-requires c κs = search needs
+task-code-requires : tie.Need-task-code-requires
+task-code-requires c κs = search needs
 
 number-text-requires : tie.Need-number-text-requires
 number-text-requires c κs = search needs
@@ -26,7 +26,7 @@ returns : tie.Need-returns
 unfolding calculationBytes
 returns c = (
   c .with-number3 .ensures .0
-      ∙ rw (c .before .with-number2 .ensures .0, c .before .before .with-number .ensures .0, c .before .before .before .number-text .ensures .0, c .before .before .before .before .action-code .ensures .0),
+      ∙ rw (c .before .with-number2 .ensures .0, c .before .before .with-number .ensures .0, c .before .before .before .number-text .ensures .0, c .before .before .before .before .task-code .ensures .0),
   omega arith,
 )
 
@@ -34,7 +34,7 @@ pub calculation-text-spec : {M : Type 1} → statement M
 calculation-text-spec =
     tie.close
     (tie.spec
-    action-code-requires
+    task-code-requires
     number-text-requires
     with-number-requires
     with-number-requires-2

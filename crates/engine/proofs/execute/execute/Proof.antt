@@ -91,7 +91,7 @@ loop-holds c =
     )
 
 loop2-holds : tie.Need-loop2-holds Inv-loop2 μ-loop2 Inv-loop μ-loop
-loop2-holds c = let o = c .before .loop .inv in (passing _ _ _ _ _ _ _ (o .2 .running .named) (o .2 .running .good), o .3)
+loop2-holds c = let o = c .before .loop .inv in (passing _ _ _ _ _ _ _ (o .2 .running .lanes) (o .2 .running .named) (o .2 .running .good), o .3)
 
 mul-step : tie.Need-mul-step Inv-loop2 μ-loop2 Inv-loop μ-loop
 mul-step c = omega (arith, c .loop2-test .taken, c .before .before .before .loop .inv .0)
@@ -162,15 +162,15 @@ checked : (c : tie.After-check-calculation Inv-loop2 μ-loop2 Inv-loop μ-loop) 
     let l = m .before .loop2 in
     let a = m .before .before .before .before .before .before .before .before .before .before .before .before .before in
     let k = c .check-calculation in
-    Cleared (a .args .vl) (length (l .memory)) (eqb (calculation m .first) (calculation m .second)) (patternAt (shapes m) (places m) (calculation m .first)) (patternAt (shapes m) (places m) (calculation m .second)) (patternAt (shapes m) (places m) (calculation m .destination)) (getD (l .all) (calculation m .first) noRunning) (getD (l .all) (calculation m .second) noRunning) (getD (l .all) (calculation m .destination) noRunning)
-    (getD (l .indices) (calculation m .first) []) (getD (l .indices) (calculation m .second) []) (getD (l .indices) (calculation m .destination) []) (k .last .1 .1 .1 .1 .1 .1 .1 .1 .1 .1 .1 .0) (k .last .1 .1 .1 .1 .1 .1 .1 .1 .1 .1 .1 .1 .0) (k .last .1 .1 .1 .1 .1 .1 .1 .1 .1 .1 .1 .1 .1 .0) (k .last .1 .1 .1 .1 .1 .1 .1 .1 .1 .1 .1 .1 .1 .1 .0) (cond (eqb (calculation m .first) (calculation m .second)) (k .last .1 .1 .1 .1 .1 .1 .1 .1 .1 .1 .1 .1 .1 .1 .0) (k .last .1 .1 .1 .1 .1 .1 .1 .1 .1 .1 .1 .1 .1 .1 .1 .0)) (k .last .1 .1 .1 .1 .1 .1 .1 .1 .1 .1 .1 .1 .1 .1 .1 .1 .0) (k .result)
+    Cleared (calculation m .task) (a .args .vl) (length (l .memory)) (eqb (calculation m .first) (calculation m .second)) (patternAt (shapes m) (places m) (calculation m .first)) (patternAt (shapes m) (places m) (calculation m .second)) (patternAt (shapes m) (places m) (calculation m .destination)) (getD (l .all) (calculation m .first) noRunning) (getD (l .all) (calculation m .second) noRunning) (getD (l .all) (calculation m .destination) noRunning)
+    (getD (l .indices) (calculation m .first) []) (getD (l .indices) (calculation m .second) []) (getD (l .indices) (calculation m .destination) []) (k .last .1 .1 .1 .1 .1 .1 .1 .1 .1 .1 .1 .1 .0) (k .last .1 .1 .1 .1 .1 .1 .1 .1 .1 .1 .1 .1 .1 .0) (k .last .1 .1 .1 .1 .1 .1 .1 .1 .1 .1 .1 .1 .1 .1 .0) (k .last .1 .1 .1 .1 .1 .1 .1 .1 .1 .1 .1 .1 .1 .1 .1 .0) (cond (eqb (calculation m .first) (calculation m .second)) (k .last .1 .1 .1 .1 .1 .1 .1 .1 .1 .1 .1 .1 .1 .1 .1 .0) (k .last .1 .1 .1 .1 .1 .1 .1 .1 .1 .1 .1 .1 .1 .1 .1 .1 .0)) (k .last .1 .1 .1 .1 .1 .1 .1 .1 .1 .1 .1 .1 .1 .1 .1 .1 .1 .0) (k .result)
 checked c =
     let m = c .before .before .before .before .before .before .before .before .before .before .before .before .before .before .before .before .before in
     let l = m .before .loop2 in
     let a = m .before .before .before .before .before .before .before .before .before .before .before .before .before in
     let k = c .check-calculation in
-    subst (λ w. Cleared (a .args .vl) w (eqb (calculation m .first) (calculation m .second)) (patternAt (shapes m) (places m) (calculation m .first)) (patternAt (shapes m) (places m) (calculation m .second)) (patternAt (shapes m) (places m) (calculation m .destination)) (getD (l .all) (calculation m .first) noRunning) (getD (l .all) (calculation m .second) noRunning) (getD (l .all) (calculation m .destination) noRunning)
-    (getD (l .indices) (calculation m .first) []) (getD (l .indices) (calculation m .second) []) (getD (l .indices) (calculation m .destination) []) (k .last .1 .1 .1 .1 .1 .1 .1 .1 .1 .1 .1 .0) (k .last .1 .1 .1 .1 .1 .1 .1 .1 .1 .1 .1 .1 .0) (k .last .1 .1 .1 .1 .1 .1 .1 .1 .1 .1 .1 .1 .1 .0) (k .last .1 .1 .1 .1 .1 .1 .1 .1 .1 .1 .1 .1 .1 .1 .0) (cond (eqb (calculation m .first) (calculation m .second)) (k .last .1 .1 .1 .1 .1 .1 .1 .1 .1 .1 .1 .1 .1 .1 .0) (k .last .1 .1 .1 .1 .1 .1 .1 .1 .1 .1 .1 .1 .1 .1 .1 .0)) (k .last .1 .1 .1 .1 .1 .1 .1 .1 .1 .1 .1 .1 .1 .1 .1 .1 .0) (k .result)) (sym (l .inv .1 .long)) (k .ensures .0)
+    subst (λ w. Cleared (calculation m .task) (a .args .vl) w (eqb (calculation m .first) (calculation m .second)) (patternAt (shapes m) (places m) (calculation m .first)) (patternAt (shapes m) (places m) (calculation m .second)) (patternAt (shapes m) (places m) (calculation m .destination)) (getD (l .all) (calculation m .first) noRunning) (getD (l .all) (calculation m .second) noRunning) (getD (l .all) (calculation m .destination) noRunning)
+    (getD (l .indices) (calculation m .first) []) (getD (l .indices) (calculation m .second) []) (getD (l .indices) (calculation m .destination) []) (k .last .1 .1 .1 .1 .1 .1 .1 .1 .1 .1 .1 .1 .0) (k .last .1 .1 .1 .1 .1 .1 .1 .1 .1 .1 .1 .1 .1 .0) (k .last .1 .1 .1 .1 .1 .1 .1 .1 .1 .1 .1 .1 .1 .1 .0) (k .last .1 .1 .1 .1 .1 .1 .1 .1 .1 .1 .1 .1 .1 .1 .1 .0) (cond (eqb (calculation m .first) (calculation m .second)) (k .last .1 .1 .1 .1 .1 .1 .1 .1 .1 .1 .1 .1 .1 .1 .1 .0) (k .last .1 .1 .1 .1 .1 .1 .1 .1 .1 .1 .1 .1 .1 .1 .1 .1 .0)) (k .last .1 .1 .1 .1 .1 .1 .1 .1 .1 .1 .1 .1 .1 .1 .1 .1 .1 .0) (k .result)) (sym (l .inv .1 .long)) (k .ensures .0)
 
 rejoined-requires : tie.Need-rejoined-requires Inv-loop2 μ-loop2 Inv-loop μ-loop
 rejoined-requires c κs =
@@ -190,11 +190,11 @@ returns c =
     let o = m .before .before .before .loop in
     let k = c .before .before .before .before .before .before .before .before .check-calculation in
     let r : Register = noRegister in
-    let h = refused-so (a .args .vl) (eqb (calculation m .first) (calculation m .second)) (patternAt (shapes m) (places m) (calculation m .first)) (patternAt (shapes m) (places m) (calculation m .second)) (patternAt (shapes m) (places m) (calculation m .destination)) (getD (l .all) (calculation m .first) noRunning) (getD (l .all) (calculation m .second) noRunning) (getD (l .all) (calculation m .destination) noRunning)
-    (getD (l .indices) (calculation m .first) []) (getD (l .indices) (calculation m .second) []) (getD (l .indices) (calculation m .destination) []) (k .last .1 .1 .1 .1 .1 .1 .1 .1 .1 .1 .1 .0) (k .last .1 .1 .1 .1 .1 .1 .1 .1 .1 .1 .1 .1 .0) (k .last .1 .1 .1 .1 .1 .1 .1 .1 .1 .1 .1 .1 .1 .0) (k .last .1 .1 .1 .1 .1 .1 .1 .1 .1 .1 .1 .1 .1 .1 .0) (cond (eqb (calculation m .first) (calculation m .second)) (k .last .1 .1 .1 .1 .1 .1 .1 .1 .1 .1 .1 .1 .1 .1 .0) (k .last .1 .1 .1 .1 .1 .1 .1 .1 .1 .1 .1 .1 .1 .1 .1 .0)) (k .last .1 .1 .1 .1 .1 .1 .1 .1 .1 .1 .1 .1 .1 .1 .1 .1 .0) (k .result)
-    (getD (l .lanes) (calculation m .first) []) (getD (l .lanes) (calculation m .second) []) (getD (l .lanes) (calculation m .destination) []) (l .memory) (checked (c .before .before .before .before .before .before .before .before)) (sixty-four m (calculation m .first) (named m .first)) (sixty-four m (calculation m .second) (named m .second)) (sixty-four m (calculation m .destination) (named m .destination)) (calculation m .action) _ (c .before .before .before .before .before .before .why .given .1) r r r in
+    let h = refused-so (calculation m .task) (a .args .vl) (eqb (calculation m .first) (calculation m .second)) (patternAt (shapes m) (places m) (calculation m .first)) (patternAt (shapes m) (places m) (calculation m .second)) (patternAt (shapes m) (places m) (calculation m .destination)) (getD (l .all) (calculation m .first) noRunning) (getD (l .all) (calculation m .second) noRunning) (getD (l .all) (calculation m .destination) noRunning)
+    (getD (l .indices) (calculation m .first) []) (getD (l .indices) (calculation m .second) []) (getD (l .indices) (calculation m .destination) []) (k .last .1 .1 .1 .1 .1 .1 .1 .1 .1 .1 .1 .1 .0) (k .last .1 .1 .1 .1 .1 .1 .1 .1 .1 .1 .1 .1 .1 .0) (k .last .1 .1 .1 .1 .1 .1 .1 .1 .1 .1 .1 .1 .1 .1 .0) (k .last .1 .1 .1 .1 .1 .1 .1 .1 .1 .1 .1 .1 .1 .1 .1 .0) (cond (eqb (calculation m .first) (calculation m .second)) (k .last .1 .1 .1 .1 .1 .1 .1 .1 .1 .1 .1 .1 .1 .1 .1 .0) (k .last .1 .1 .1 .1 .1 .1 .1 .1 .1 .1 .1 .1 .1 .1 .1 .1 .0)) (k .last .1 .1 .1 .1 .1 .1 .1 .1 .1 .1 .1 .1 .1 .1 .1 .1 .1 .0) (k .result)
+    (getD (l .lanes) (calculation m .first) []) (getD (l .lanes) (calculation m .second) []) (getD (l .lanes) (calculation m .destination) []) (l .memory) (checked (c .before .before .before .before .before .before .before .before)) (sixty-four m (calculation m .first) (named m .first)) (sixty-four m (calculation m .second) (named m .second)) (sixty-four m (calculation m .destination) (named m .destination)) _ (c .before .before .before .before .before .before .why .given .1) r r r in
     let p = passing-no _ _ _ _ _ _ _ _ _ _ _ (l .inv .0) (m .loop2-test .taken) (omega (arith, o .inv .0, o .inv .1)) _ _ _ _ _
-    (calculated-at (shapes m) (places m) (l .lanes) (l .indices) (l .all) (l .inv .1 .out) (a .args .vl) (calculation m .action) (l .memory) (calculation m .first) (calculation m .second) (calculation m .destination) (named m .first) (named m .second) (named m .destination) _ r r r (l .memory) h) _ (c .before .before .before .before .before .before .why .given .1) in
+    (calculated-at (shapes m) (places m) (l .lanes) (l .indices) (l .all) (l .inv .1 .out) (a .args .vl) (calculation m .task) (l .memory) (calculation m .first) (calculation m .second) (calculation m .destination) (named m .first) (named m .second) (named m .destination) _ r r r (l .memory) h) _ (c .before .before .before .before .before .before .why .given .1) in
     (λ t. record { world = record { machine = record { registers = c .rejoined .ensures t }; memory = l .memory }; report = record { passes = o .passes; calculations = l .calculations }; verdict = Refused (c .before .before .before .before .before .before .why .given .0 .0) (getD (a .args .body .steps) (l .k) noStep .place) })
     ∙ passes-no _ _ _ _ _ _ _ _ _ _ (o .inv .2) (m .before .before .loop-test .taken) _ _ _ _ (l .inv .0) _ _ (p .1)
 
@@ -313,12 +313,12 @@ loop2-again c =
     let e = c .before .before .before .before .before .before .before .before .before .before .before .before .before .before .before .before .before .before .before .enum-told .given .1 in
     let v = c .before .before .before .before .before .carry-out in
     let fa = fits m (calculation m .first) (named m .first) in
-    let h = round (a .args .vl) (eqb (calculation m .first) (calculation m .second)) (patternAt (shapes m) (places m) (calculation m .first)) (patternAt (shapes m) (places m) (calculation m .second)) (patternAt (shapes m) (places m) (calculation m .destination)) (getD (l .all) (calculation m .first) noRunning) (getD (l .all) (calculation m .second) noRunning) (getD (l .all) (calculation m .destination) noRunning)
-    (getD (l .indices) (calculation m .first) []) (getD (l .indices) (calculation m .second) []) (getD (l .indices) (calculation m .destination) []) (k .last .1 .1 .1 .1 .1 .1 .1 .1 .1 .1 .1 .0) (k .last .1 .1 .1 .1 .1 .1 .1 .1 .1 .1 .1 .1 .0) (k .last .1 .1 .1 .1 .1 .1 .1 .1 .1 .1 .1 .1 .1 .0) (k .last .1 .1 .1 .1 .1 .1 .1 .1 .1 .1 .1 .1 .1 .1 .0) (cond (eqb (calculation m .first) (calculation m .second)) (k .last .1 .1 .1 .1 .1 .1 .1 .1 .1 .1 .1 .1 .1 .1 .0) (k .last .1 .1 .1 .1 .1 .1 .1 .1 .1 .1 .1 .1 .1 .1 .1 .0)) (k .last .1 .1 .1 .1 .1 .1 .1 .1 .1 .1 .1 .1 .1 .1 .1 .1 .0) (k .result)
-    (getD (l .lanes) (calculation m .first) []) (getD (l .lanes) (calculation m .second) []) (getD (l .lanes) (calculation m .destination) []) (l .memory) g (sixty-four m (calculation m .first) (named m .first)) (sixty-four m (calculation m .second) (named m .second)) (sixty-four m (calculation m .destination) (named m .destination)) (calculation m .action) e fa (v .result) (v .last .1 .1 .1 .1 .1 .1 .1 .1 .1 .1 .1 .1 .0) (v .last .1 .1 .1 .1 .1 .1 .1 .1 .1 .1 .1 .1 .1 .0) (v .last .1 .1 .1 .1 .1 .1 .1 .1 .1 .1 .1 .1 .1 .1 .0) (v .last .1 .1 .1 .1 .1 .1 .1 .1 .1 .1 .1 .1 .1 .1 .1 .0) (v .ensures) in
+    let h = round (calculation m .task) (a .args .vl) (eqb (calculation m .first) (calculation m .second)) (patternAt (shapes m) (places m) (calculation m .first)) (patternAt (shapes m) (places m) (calculation m .second)) (patternAt (shapes m) (places m) (calculation m .destination)) (getD (l .all) (calculation m .first) noRunning) (getD (l .all) (calculation m .second) noRunning) (getD (l .all) (calculation m .destination) noRunning)
+    (getD (l .indices) (calculation m .first) []) (getD (l .indices) (calculation m .second) []) (getD (l .indices) (calculation m .destination) []) (k .last .1 .1 .1 .1 .1 .1 .1 .1 .1 .1 .1 .1 .0) (k .last .1 .1 .1 .1 .1 .1 .1 .1 .1 .1 .1 .1 .1 .0) (k .last .1 .1 .1 .1 .1 .1 .1 .1 .1 .1 .1 .1 .1 .1 .0) (k .last .1 .1 .1 .1 .1 .1 .1 .1 .1 .1 .1 .1 .1 .1 .1 .0) (cond (eqb (calculation m .first) (calculation m .second)) (k .last .1 .1 .1 .1 .1 .1 .1 .1 .1 .1 .1 .1 .1 .1 .1 .0) (k .last .1 .1 .1 .1 .1 .1 .1 .1 .1 .1 .1 .1 .1 .1 .1 .1 .0)) (k .last .1 .1 .1 .1 .1 .1 .1 .1 .1 .1 .1 .1 .1 .1 .1 .1 .1 .0) (k .result)
+    (getD (l .lanes) (calculation m .first) []) (getD (l .lanes) (calculation m .second) []) (getD (l .lanes) (calculation m .destination) []) (l .memory) g (sixty-four m (calculation m .first) (named m .first)) (sixty-four m (calculation m .second) (named m .second)) (sixty-four m (calculation m .destination) (named m .destination)) (a .pre .0 .0 .0) e fa (v .result) (v .last .1 .1 .1 .1 .1 .1 .1 .1 .1 .1 .1 .1 .0) (v .last .1 .1 .1 .1 .1 .1 .1 .1 .1 .1 .1 .1 .1 .0) (v .last .1 .1 .1 .1 .1 .1 .1 .1 .1 .1 .1 .1 .1 .1 .0) (v .last .1 .1 .1 .1 .1 .1 .1 .1 .1 .1 .1 .1 .1 .1 .1 .0) (v .ensures) in
     let q = passing-on _ _ _ _ _ _ _ _ _ _ _ (l .inv .0) (m .loop2-test .taken) (omega (arith, o .inv .0, o .inv .1)) _ _ _ _ _
-    (calculated-at (shapes m) (places m) (l .lanes) (l .indices) (l .all) (l .inv .1 .out) (a .args .vl) (calculation m .action) (l .memory) (calculation m .first) (calculation m .second) (calculation m .destination) (named m .first) (named m .second) (named m .destination) _ _ _ _ (v .last .1 .1 .1 .1 .1 .1 .1 .1 .1 .1 .1 .1 .1 .1 .1 .0) (h .0)) e in
-    let w = three-on (shapes m) (places m) (l .lanes) (l .indices) (l .all) (l .inv .1 .out) (calculation m .first) (calculation m .second) (calculation m .destination) (named m .first) (named m .second) (named m .destination) (v .last .1 .1 .1 .1 .1 .1 .1 .1 .1 .1 .1 .1 .0) (v .last .1 .1 .1 .1 .1 .1 .1 .1 .1 .1 .1 .1 .1 .0) (v .last .1 .1 .1 .1 .1 .1 .1 .1 .1 .1 .1 .1 .1 .1 .0) (k .last .1 .1 .1 .1 .1 .1 .1 .1 .1 .1 .1 .0) (k .last .1 .1 .1 .1 .1 .1 .1 .1 .1 .1 .1 .1 .0) (k .last .1 .1 .1 .1 .1 .1 .1 .1 .1 .1 .1 .1 .1 .0) (v .result .first) (v .result .second) (v .result .destination) (h .1 .0) (h .1 .1 .0) (h .1 .1 .1) in (
+    (calculated-at (shapes m) (places m) (l .lanes) (l .indices) (l .all) (l .inv .1 .out) (a .args .vl) (calculation m .task) (l .memory) (calculation m .first) (calculation m .second) (calculation m .destination) (named m .first) (named m .second) (named m .destination) _ _ _ _ (v .last .1 .1 .1 .1 .1 .1 .1 .1 .1 .1 .1 .1 .1 .1 .1 .0) (h .0)) e in
+    let w = three-on (shapes m) (places m) (l .lanes) (l .indices) (l .all) (l .inv .1 .out) (calculation m .first) (calculation m .second) (calculation m .destination) (named m .first) (named m .second) (named m .destination) (v .last .1 .1 .1 .1 .1 .1 .1 .1 .1 .1 .1 .1 .0) (v .last .1 .1 .1 .1 .1 .1 .1 .1 .1 .1 .1 .1 .1 .0) (v .last .1 .1 .1 .1 .1 .1 .1 .1 .1 .1 .1 .1 .1 .1 .0) (k .last .1 .1 .1 .1 .1 .1 .1 .1 .1 .1 .1 .1 .0) (k .last .1 .1 .1 .1 .1 .1 .1 .1 .1 .1 .1 .1 .1 .0) (k .last .1 .1 .1 .1 .1 .1 .1 .1 .1 .1 .1 .1 .1 .1 .0) (v .result .first) (v .result .second) (v .result .destination) (h .1 .0) (h .1 .1 .0) (h .1 .1 .1) in (
       subst (λ rs. Passing (a .args .vl) (a .args .body .count) (a .args .body .steps) (o .passes) (registersIn (shapes m) (places m) (o .lanes) (o .indices) (o .all)) (o .memory) (o .calculations) rs (v .last .1 .1 .1 .1 .1 .1 .1 .1 .1 .1 .1 .1 .1 .1 .1 .0) (l .calculations + 1) (l .k + 1))
           (sym (w .1)) q,
       record {
