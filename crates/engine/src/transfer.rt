@@ -327,18 +327,18 @@ pub(crate) fn calculate_lanes(
     task: Task,
     width: u64,
     n: usize,
-    first: &[u8; 64],
-    second: &[u8; 64],
+    one: &[u8; 64],
+    other: &[u8; 64],
     out: &mut [u8; 64],
 )
     requires { ⌜ ((1 ≤ width) × (width ≤ 8)) × (n * width ≤ 64) ⌝ }
-    ensures { λ _. ⌜ now (out .exit) ≡ packed width (outcome task (8 * width) (lanesFrom (now (first .entry)) width 0 n) (lanesFrom (now (second .entry)) width 0 n)) ⌝ }
+    ensures { λ _. ⌜ now (out .exit) ≡ packed width (outcome task (8 * width) (lanesFrom (now (one .entry)) width 0 n) (lanesFrom (now (other .entry)) width 0 n)) ⌝ }
 {
     match task {
-        Task::Each(action) => combine_lanes(action, width, n, first, second, out),
+        Task::Each(action) => combine_lanes(action, width, n, one, other, out),
         Task::All(fold) => {
             *out = [0u8; 64];
-            store(out, 0, width, fold_lanes(fold, width, n, first));
+            store(out, 0, width, fold_lanes(fold, width, n, one));
         }
     }
 }
