@@ -118,8 +118,8 @@ action-back action.Xor = refl
 action-back action.Smaller = refl
 action-back action.Larger = refl
 
--- the codes of folds are 8 to 11
-fold-range : (f : Fold) → (8 ≤ foldCode f) × (foldCode f ≤ 11)
+-- the codes of folds are at most 11
+fold-range : (f : Fold) → foldCode f ≤ 11
 fold-range fold.Sum = omega arith
 fold-range fold.Smallest = omega arith
 fold-range fold.Largest = omega arith
@@ -128,7 +128,7 @@ fold-range fold.FirstLargest = omega arith
 -- the codes of calculations are 0 to 11
 pub task-range : (t : Task) → taskCode t ≤ 11
 task-range (task.Each a) = omega (arith, leb-true (actionCode a) 7 (action-range a))
-task-range (task.All f) = fold-range f .1
+task-range (task.All f) = fold-range f
 
 -- what a calculation does and its code
 task-back : (t : Task) → taskCoded (taskCode t) ≡ t

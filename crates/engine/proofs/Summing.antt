@@ -11,9 +11,6 @@ use native.Mathlib.Omega.{arith}
 use native.Mathlib.Nat.{mod-lt}
 use lib.ListN.{length, getD, take, drop}
 use lib.Pow.{pow-pos}
-use Rattle.codec.specs.Headers.{bytesOf}
-use Rattle.codec.specs.declared.header.Width.{Width}
-use Rattle.codec.specs.declared.header.Width.the-variants.{B, H, W, D}
 use Rattle.codec.specs.declared.header.Kind.the-variants.{Load}
 use Rattle.codec.specs.declared.operation.Fold.the-variants.{Sum}
 use Rattle.codec.specs.declared.operation.Task.the-variants.{All}
@@ -24,6 +21,8 @@ use Rattle.engine.specs.Registers.{shapeOf, movedTo, reg}
 use Rattle.engine.specs.Calculate.{World}
 use Rattle.engine.specs.Allowed.{Destination}
 use Rattle.engine.specs.Histories.{Chunk, Gives, Becomes, Stores, Entry}
+use Rattle.engine.specs.LaneLaws.{width-range}
+use Rattle.engine.specs.GoodLaws.{is-width}
 use Rattle.engine.specs.ContentLaws.{holding-width, holding-contents}
 use Rattle.engine.specs.Given.{Stream, AtMoment}
 use Rattle.engine.specs.StreamSums.{streamWidth, sumOf, calculationOf, DidIn, destinationOf, chunkRead}
@@ -41,13 +40,6 @@ not-open k p o = absurd (let z : _≡_ {A = ℕ} 0 1 = cc in omega arith)
 not-plain : {X : Type 0} (k : State) → (k ≡ Open) ⊎ (k ≡ Finished) → k ≡ Plain → X
 not-plain k (inl e) p = absurd (let z : _≡_ {A = ℕ} 0 1 = cc in omega arith)
 not-plain k (inr e) p = absurd (let z : _≡_ {A = ℕ} 0 1 = cc in omega arith)
-
--- an element has 8 bytes at most
-width-most : (w : Width) → bytesOf w ≤ 8
-width-most B = omega arith
-width-most H = omega arith
-width-most W = omega arith
-width-most D = omega arith
 
 -- a register that takes one lane gives it
 one-lane : (width x : ℕ) (r : Register) → x < 2 ^ (8 * width) → width ≤ 8 → contents (holding width (x ∷ []) r) ≡ x ∷ []
@@ -164,7 +156,7 @@ module _ (vl : ℕ) (t : Stream) (w : World) (e : Entry) (i : ℕ) (soFar : List
       single = single;
       plain = λ p. (
         ap (λ (r : Register). r .width) (takes p) ∙ holding-width (streamWidth t) lane (destinationOf w e),
-        ap contents (takes p) ∙ one-lane (streamWidth t) _ (destinationOf w e) (mod-lt _ (pow-pos (8 * streamWidth t))) (width-most (t .header .width)),
+        ap contents (takes p) ∙ one-lane (streamWidth t) _ (destinationOf w e) (mod-lt _ (pow-pos (8 * streamWidth t))) (width-range _ (is-width (t .header .width)) .1),
       );
       store = stores;
     }

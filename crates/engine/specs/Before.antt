@@ -1,11 +1,11 @@
 -- What the two numbers that 14 carries leave as it was (02, 1/14: "14 carries two numbers more"): a run refuses the same calculations with the
 -- same numbers at the same places, with the same counts, registers and memory.
 --
---   Numbered, numberedFirst        01's checks by their numbers alone
+--   Numbered, numberedFirst        the checks of 01, and 18 of 02, 2/14, by their numbers alone
 --   numbersOn, numberBefore        the number that 01 and 02, 2/14, alone give a calculation
 --   numberOfWhy, number-before     it is the number of the refusal
 --   Plainly, plainly, told-plainly   an answer, its two numbers forgotten
---   as-before                      whatever says why a calculation is refused, as long as it gives 01's number: the answers are the same
+--   as-before                      whatever says why a calculation is refused, as long as it gives that number: the answers are the same
 use Prim.Native.Nat.{ℕ, zero, suc, _+_, _≤_}
 use mathlib.Core.Path.{_≡_, refl, sym, _∙_, ap}
 use mathlib.Core.List.{List, [], _∷_, _++_, map}
@@ -35,7 +35,7 @@ use Rattle.engine.specs.declared.run.Report.{Report}
 use Rattle.engine.specs.declared.run.Verdict.{Verdict}
 use Rattle.engine.specs.declared.run.Verdict.the-variants.{Done, Refused}
 
--- ---- 01's checks by their numbers
+-- ---- the checks by their numbers
 
 -- a refusal's number, and whether it applies
 pub record Numbered : Type 0 where
@@ -238,7 +238,7 @@ module _ (why other : Reason) (same : (vl : ℕ) (c : Calculation) (w : World) �
       let r = refusedAt (record { machine = m; memory = memory }) Lengths 0 in
       pick a a refl (onEndingBy why vl w (prepare s m .ending)) (onEndingBy other vl w (prepare s m .ending)) r r (ending-alike vl w (prepare s m .ending)) refl
 
--- whatever says why a calculation is refused, with 01's number of it: every sheet has the answer that the engine gives it, the two numbers of
+-- whatever says why a calculation is refused, with that number of it: every sheet has the answer that the engine gives it, the two numbers of
 -- 14 forgotten
 pub as-before : (why : Reason) → ((vl : ℕ) (c : Calculation) (w : World) → numberOfWhy (why vl c w) ≡ numberBefore vl c w)
     → (m : Machine) (vl : ℕ) (s memory : List ℕ) → plainly (runBy why m vl s memory) ≡ plainly (runFrom m vl s memory)

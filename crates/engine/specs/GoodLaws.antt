@@ -139,7 +139,7 @@ fresh-machine-good vl = record { all = refl; good = λ i h. subst (λ r. Good vl
 -- ---- a good register after an operation
 
 -- a width is 1, 2, 4 or 8 bytes
-is-width : (w : Width) → IsWidth (bytesOf w)
+pub is-width : (w : Width) → IsWidth (bytesOf w)
 is-width B = (0, omega arith, refl)
 is-width H = (1, omega arith, refl)
 is-width W = (2, omega arith, refl)

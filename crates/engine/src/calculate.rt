@@ -82,8 +82,8 @@ fn lanes_differ(n: usize, m: usize, k: usize, z: Ahead) -> bool
     false
 }
 
-// The checks of a calculation in document 01's order, 18 between 13 and 14: of what it does, on first source `a` of register `i`, second source `b` of register `j` and
-// destination `d` of register `t`. The sources are the same register if `same`.
+// The checks of a calculation in document 01's order, 18 between 13 and 14: of what it does, on first source `a` of register `i`, second
+// source `b` of register `j` and destination `d` of register `t`. The sources are the same register if `same`.
 pub(crate) fn check_calculation(
     task: Task,
     vl: u64,
