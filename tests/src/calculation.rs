@@ -199,11 +199,12 @@ impl Machine<'_> {
         }
     }
 
-    /// Lists as many elements of an open stream as this calculation can look at, and one more for the flags.
-    fn list_ahead(&mut self, register: usize) {
+    /// Lists as many elements and passes of an open stream as this calculation can look at, and more for the flags.
+    pub fn list_ahead(&mut self, register: usize) {
         if self.registers[register].state == State::Open {
-            let count = self.registers[register].stream().moved + 64 + 1;
-            self.registers[register].stream_mut().list(count);
+            let stream = self.registers[register].stream_mut();
+            // Up to the present pass, the longest chunk, and what comes after it.
+            stream.list(stream.moved + stream.passed + 1 + 64 + 2);
         }
     }
 
@@ -219,8 +220,8 @@ impl Machine<'_> {
         Ok(())
     }
 
-    /// 13. It does not come with 8 to 11, so never where 18 would apply too: there is one source, and an open store stream has room for a
-    /// single lane.
+    /// 13. With 8 to 11 it comes only where a store stream stands at an empty pass, which has no room for the single lane: there is one
+    /// source.
     fn lanes(&self, c: &Calculation) -> Result<(), Clause> {
         let n = self.lanes_of(c.first);
         if n != self.lanes_of(c.second) {
@@ -243,7 +244,7 @@ impl Machine<'_> {
     }
 
     /// The length of an open stream's next chunk, or the valid lanes of a plain register.
-    fn lanes_of(&self, register: usize) -> usize {
+    pub fn lanes_of(&self, register: usize) -> usize {
         let register = &self.registers[register];
         match register.state {
             State::Open => register.stream().chunk(self.vl / register.width).len(),
@@ -328,13 +329,13 @@ impl Machine<'_> {
         }
     }
 
-    /// After its last element a stream is finished.
+    /// After its last element a stream is finished; a coupled one after its last pass.
     fn move_on(&mut self, register: usize, elements: usize) {
         self.note_move(register, elements);
         let register = &mut self.registers[register];
         let stream = register.stream_mut();
-        stream.moved += elements;
-        if stream.whole && stream.moved == stream.elements.len() {
+        stream.move_on(elements);
+        if stream.is_at_end() {
             register.state = State::Finished;
             self.seen.mark(Event::FinishedByMove);
         }

@@ -229,6 +229,7 @@ cases!(Event in &'static str {
         NoLanesOutside "18, with the element to be written outside",
         NoLanesUnusable "5, 10 or 11 of the destination, where 18 would apply too",
         NoLanesWidth "12, where 18 would apply too",
+        NoLanesStore "13, where 18 would apply too",
     }
     "sources" {
         ReadTwiceNamed "a load stream named twice where two sources are allowed, read once",
@@ -260,14 +261,50 @@ cases!(Event in &'static str {
         ChunkCoupled3 "a chunk cut by the end of a pass of dimension 3",
         ChunkCoupledAbove "a chunk cut by the end of a pass of a dimension above 3",
         ChunkOverPasses "a chunk over more than one pass of dimension 1",
+        ChunkInsideCoupled "a chunk that ends inside its coupled pass",
+        StoreInsideCoupled "a store that ends inside its coupled pass",
     }
     "flags" {
         FlagsNone "an open stream with elements moved and all flags clear",
         FlagsSome "an open stream with some flags set",
         FlagSkipsEmpty "a flag set because the later passes are empty",
+        FlagWaitsEmpty "a flag clear because a coupled pass is to come, though no element is",
+        FlagsBeforeElement "an open stream with some flags set before its first element",
+    }
+    "empty passes" {
+        EmptyChunk "a chunk of no lanes read",
+        EmptyCoupled1 "of dimension 1",
+        EmptyCoupled2 "of dimension 2",
+        EmptyCoupledAbove "of a dimension above 2",
+        EmptyOutermost "of the outermost dimension",
+        EmptyFirst "the first chunk",
+        EmptyLast "the last chunk, after chunks with lanes",
+        EmptyBetween "a chunk between two with lanes",
+        EmptyTwice "two chunks in a row",
+        EmptyOnly "all chunks of a stream",
+        EmptyBoth "chunks of two streams in one calculation",
+        EmptyWithPlain "a chunk, and a plain source without lanes",
+        EmptySum "a sum over a chunk of no lanes",
+        EmptySumStored "a sum over a chunk of no lanes, stored",
+        EmptySumOutside "14 of the element to be written, of a sum over a chunk of no lanes",
+        EmptyNoLanes "18 at a chunk of no lanes",
+        EmptyAgainstLanes "13 of a chunk of no lanes and a source with lanes",
+        StorePassesEmpty "a store stream moved past one by a chunk of no lanes",
+        StorePassesEmptyPlain "a store stream moved past one by a plain source without lanes",
+        StorePassesFirst "a store stream moved past one before its first element",
+        StorePassesTwice "a store stream moved past two in a row",
+        StoreFinishedEmpty "a store stream finished by one",
+        StoreBeforeEmpty "a store that completes its pass, and stays before an empty one",
+        StoreNoneStays "a store of no lanes at a coupled pass with elements, which stays there",
+        StoreAtEmptyRefused "13 of lanes for a store stream at one",
+        StoreAtEmptyFold "13 of a single lane for a store stream at one",
+        NoPass "a coupled stream finished at end, since no pass is reached",
+        OpenEmptyOnly "open refused with 5 on an open stream of no element",
+        NestEmpty "a nest whose sheet reads a chunk of no lanes",
+        NestEmptyOnly "a nest whose sheet reads chunks of no lanes only",
     }
     "states" {
-        FinishedByMove "a stream finished by its last element",
+        FinishedByMove "a stream finished by its last chunk",
         FinishedAtEnd "a stream finished at end",
         OpenedAgain "a finished register opened anew",
     }
@@ -318,6 +355,12 @@ impl Hits {
             }
         }
     }
+
+    /// The events of a sheet, once more, as those of a nest.
+    pub fn saw_nest(&mut self, seen: &Seen) {
+        self.events[Event::NestEmpty as usize] += u64::from(seen.has(Event::EmptyChunk));
+        self.events[Event::NestEmptyOnly as usize] += u64::from(seen.has(Event::EmptyOnly));
+    }
 }
 
 /// The events of one sheet.
@@ -349,10 +392,9 @@ impl Clause {
     }
 
     /// Whether a calculation of a later pass can be refused so. Being configured, and load or store, do not change during a run, so 5
-    /// and 10 come in the first pass or never. So does 18: a plain register that has lanes at some point of the first pass has lanes at
-    /// that point of every later one.
+    /// and 10 come in the first pass or never.
     pub fn can_come_later(self) -> bool {
-        (11..=14).contains(&self.number())
+        matches!(self.number(), 11..=14 | 18)
     }
 
     pub fn of_operation(no: NoNumber) -> Clause {

@@ -2,7 +2,7 @@
 
 use std::time::{Duration, Instant};
 
-use tests::clauses::Hits;
+use tests::clauses::{Hits, Seen};
 use tests::generate::nests::NestInput;
 use tests::generate::SheetInput;
 use tests::mark::{self, Job};
@@ -88,6 +88,7 @@ type Run = fn(&[u8], u64, &mut [u8], &mut [u8]) -> u64;
 struct Expected {
     report: Vec<u64>,
     memory: Vec<u8>,
+    seen: Seen,
 }
 
 /// Compares one way to run a sheet with what is expected. Answers the time it took.
@@ -147,7 +148,7 @@ fn expected(input: &SheetInput, tally: &mut Tally) -> Expected {
         tally.refused += 1;
     }
     tally.hits.saw(&answer.seen);
-    Expected { report: report(&answer), memory }
+    Expected { report: report(&answer), memory, seen: answer.seen }
 }
 
 /// Compares the engine and the fast model with the model on a sheet.
@@ -223,6 +224,7 @@ fn runs_of(nest: &nest::Nest, input: &NestInput, random: &mut Random, tally: &mu
         let at = |difference| format!("the sheet at vector length {vl}: {difference}");
         tally.runs += 1;
         let expected = expected(&run, tally);
+        tally.hits.saw_nest(&expected.seen);
         tally.engine += held_to(engine::run, random, &run, &expected).map_err(at)?;
         if inside && expected.report[0] != 0 {
             return Err(at("refused, though all visits lie inside".into()));

@@ -1,5 +1,6 @@
 //! The examples of document 01, worked out by hand from its text.
 
+mod empty_rows;
 mod row_sums;
 
 use crate::calculation::{Outside, Role};
@@ -114,19 +115,17 @@ fn shrinking_rows() {
     assert_eq!(six.registers[1].state, State::Configuring);
 }
 
-/// Rows of 2, 1, 0: the flag of dimension 2 is set after the second row, since nothing follows it.
+/// Rows of 2, 1, 0, twice, uncoupled, written lane by lane: the flag of dimension 2 is set after the second row, since no element follows it
+/// in that pass.
 #[test]
 fn flag_before_empty_rows() {
     let one = unsigned(1);
-    let rows = [1, word(Kind::Load, 0, 1, 1), 0, 2, 1, 0, 2, one, 2, 1, 0, 3, 0, 3, 1, 0, 0, 1, 1, 2, 1, 0, 2, 0, 4, 1];
-    let other = [1, word(Kind::Load, 0, 2, 0), 0, 2, 2, 0, 3, 0, 4, 2, 5, 2, 2, 0, 4, 1, 1, 0, 5, 2, 2];
-    // The second run's loop register has three elements in one chunk, so one pass is made and one row read.
-    let answer = ran(&[&rows[..], &other].concat(), 8, &mut counting(8));
-    assert_eq!((refused(&answer), answer.passes, flags(&answer, 1)), (None, 1, vec![true, false, false]));
-    // With one element a row of dimension 2's pass: two passes are made.
-    let other = [1, word(Kind::Load, 0, 2, 1), 0, 2, 2, 0, 1, 0, 2, 2, 0, 2, 0, 4, 2, 5, 2, 2, 0, 4, 1, 1, 0, 5, 2, 2];
-    let answer = ran(&[&rows[..], &other].concat(), 8, &mut counting(8));
-    assert_eq!((refused(&answer), answer.passes, flags(&answer, 1)), (None, 2, vec![true, true, false]));
+    let rows = [1, word(Kind::Store, 0, 1, 0), 0, 2, 1, 0, 2, one, 2, 1, 0, 3, 0, 3, 1, 0, 0, 1, 1, 2, 1, 0, 2, 0, 4, 1];
+    for (lanes, set) in [(1, [false, false, false]), (2, [true, false, false]), (3, [true, true, false]), (6, [true, true, true])] {
+        let other = [1, word(Kind::Load, 0, 2, 1), 0, 2, 2, 0, 1, 0, 2, 2, 0, lanes, 0, 4, 2, 5, 2, 1, 0, 1, 2, 2];
+        let answer = ran(&[&rows[..], &other].concat(), 8, &mut counting(8));
+        assert_eq!((refused(&answer), answer.passes, flags(&answer, 1)), (None, lanes, set.to_vec()));
+    }
 }
 
 #[test]

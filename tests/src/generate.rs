@@ -7,6 +7,7 @@ pub mod extreme;
 pub mod fixed;
 pub mod nests;
 pub mod plan;
+pub mod ragged;
 pub mod soup;
 pub mod sums;
 
@@ -70,7 +71,11 @@ pub fn sheet(seed: u64, number: u64) -> SheetInput {
 type Made = (Vec<Numbers>, u64, usize);
 
 fn draft(random: &mut Random, change: impl Fn(&mut Random, &mut Draft)) -> Made {
-    let mut draft = if random.one_in(8) { sums::draft(random) } else { Draft::new(random) };
+    let mut draft = match random.below(16) {
+        0 | 1 => sums::draft(random),
+        2 | 3 => ragged::draft(random),
+        _ => Draft::new(random),
+    };
     change(random, &mut draft);
     (draft.operations(random), draft.vl, draft.memory.clamp(0, 65_536) as usize)
 }

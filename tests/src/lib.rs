@@ -28,3 +28,7 @@ pub mod stream;
 
 #[cfg(test)]
 mod examples;
+#[cfg(test)]
+mod models;
+#[cfg(test)]
+mod table;

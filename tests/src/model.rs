@@ -172,7 +172,10 @@ impl Machine<'_> {
             State::Plain => {}
             State::Finished => self.seen.mark(Event::OpenedAgain),
             State::Configuring => return Err(Clause::OpenConfiguring),
-            State::Open => return Err(Clause::OpenOpen),
+            State::Open => {
+                self.seen.mark_if(!register.stream().has_element(), Event::OpenEmptyOnly);
+                return Err(Clause::OpenOpen);
+            }
         }
         let (kind, width) = match bits(14, 12) {
             code @ 0..=3 => (Kind::Store, 1 << code),
@@ -243,12 +246,14 @@ impl Machine<'_> {
             return Err(Clause::CoupledMissing);
         }
         stream.bounds()?;
-        if stream.has_element() {
+        if stream.has_chunk() {
             register.state = State::Open;
         } else {
             stream.whole = true;
+            let coupled = stream.coupled > 0;
             register.state = State::Finished;
             self.seen.mark(Event::FinishedAtEnd);
+            self.seen.mark_if(coupled, Event::NoPass);
         }
         Ok(())
     }

@@ -3,7 +3,7 @@
 use crate::calculation::{folds, has_one_source, signed, taken, Calculation};
 use crate::clauses::{Clause, Event};
 use crate::model::{Machine, State};
-use crate::stream::{Element, Kind, Parameter, Stream};
+use crate::stream::{Element, Index, Kind, Parameter, Pass, Stream};
 
 impl Machine<'_> {
     /// A calculation whose first source has these lanes is about to move, and to write at these addresses.
@@ -29,18 +29,40 @@ impl Machine<'_> {
         seen.mark_if(!(first && second) && n > 0, Event::SourcePlain);
         seen.mark_if(!(first && second) && n == 0, Event::SourceNone);
         seen.mark_if(!destination && n > 0 && (c.destination == c.first || c.destination == c.second), Event::DestinationIsSource);
-        seen.mark_if(destination && !part, Event::StoreWhole);
+        seen.mark_if(destination && !part && taken > 0, Event::StoreWhole);
         seen.mark_if(part && taken > 0, Event::StorePart);
         seen.mark_if(part && taken == 0, Event::StoreNone);
         seen.mark_if(overlaps, Event::StoreOverlaps);
         seen.mark_if(twice, Event::StoreTwice);
         seen.mark_if(outside_behind && taken > 0, Event::StoreBehindOutside);
         seen.mark_if(outside_behind && taken == 0, Event::StoreNoneOutside);
+        if n == 0 {
+            self.note_no_lanes(c);
+        }
         if folds(c.operation) {
-            seen.mark_if(outside_behind, Event::FoldBehindOutside);
+            self.seen.mark_if(outside_behind, Event::FoldBehindOutside);
             self.note_fold(c, lanes);
             self.note_folded(c.operation, width as usize, lanes);
         }
+    }
+
+    /// A calculation whose sources have no lanes is about to move.
+    fn note_no_lanes(&mut self, c: &Calculation) {
+        let open = |register: usize| self.registers[register].state == State::Open;
+        let (first, second, stores) = (open(c.first), open(c.second), open(c.destination));
+        let moves = stores && taken(c.operation, 0) == 0;
+        let store = self.registers[c.destination].stream.as_ref();
+        let at_empty = moves && store.is_some_and(Stream::at_empty_pass);
+        let stays = moves && store.is_some_and(|stream| stream.coupled > 0 && !stream.at_empty_pass());
+
+        let seen = &mut self.seen;
+        seen.mark_if(first && second && c.first != c.second, Event::EmptyBoth);
+        seen.mark_if(first != second, Event::EmptyWithPlain);
+        seen.mark_if(folds(c.operation) && first, Event::EmptySum);
+        seen.mark_if(folds(c.operation) && first && stores, Event::EmptySumStored);
+        seen.mark_if(at_empty && (first || second), Event::StorePassesEmpty);
+        seen.mark_if(at_empty && !first && !second, Event::StorePassesEmptyPlain);
+        seen.mark_if(stays, Event::StoreNoneStays);
     }
 
     /// One of 8 to 11 is about to move: what it reads and where the single lane goes.
@@ -48,15 +70,15 @@ impl Machine<'_> {
         let n = lanes.len();
         let (source, destination) = (&self.registers[c.first], &self.registers[c.destination]);
         let (open, stores) = (source.state == State::Open, destination.state == State::Open);
-        let cut = open && n < self.vl / source.width;
-        let ends = open && source.stream().elements.len() == source.stream().moved + n;
+        let cut = open && n > 0 && n < self.vl / source.width;
+        let ends = open && next_index(source.stream(), n).is_none();
         let onto_lanes = !stores && c.destination != c.first && destination.valid > 1;
         let code = source.width.trailing_zeros() as usize;
 
         let seen = &mut self.seen;
         seen.mark_if(n > 0, FOLD_WIDTHS[code]);
         seen.mark_if(n == 1, Event::FoldOneLane);
-        seen.mark_if(open && !cut, Event::FoldChunk);
+        seen.mark_if(open && n > 0 && !cut, Event::FoldChunk);
         seen.mark_if(cut && ends, Event::FoldAtEnd);
         seen.mark_if(cut && !ends, Event::FoldCoupled);
         seen.mark_if(!open && n > 1, Event::FoldPlain);
@@ -97,15 +119,29 @@ impl Machine<'_> {
 
     /// A calculation is about to be refused by a clause.
     pub fn note_refused(&mut self, c: &Calculation, clause: Clause) {
+        self.list_ahead(c.first);
         let source = &self.registers[c.first];
-        let no_lanes = c.operation > 8 && source.state == State::Plain && source.valid == 0;
+        let gives_none = source.state == State::Plain || source.is_open(Kind::Load);
+        let no_lanes = c.operation > 8 && gives_none && self.lanes_of(c.first) == 0;
         match clause.number() {
             14 => self.note_outside(c),
             5 | 10 | 11 => self.seen.mark_if(no_lanes, Event::NoLanesUnusable),
             12 => self.seen.mark_if(no_lanes, Event::NoLanesWidth),
+            13 => {
+                let at_empty = |register: usize| self.registers[register].stream.as_ref().is_some_and(Stream::at_empty_pass);
+                let of_sources = clause == Clause::LanesOfSources;
+                let chunk_of_none = of_sources && (at_empty(c.first) || at_empty(c.second));
+                let store_at_empty = !of_sources && at_empty(c.destination);
+                self.seen.mark_if(chunk_of_none, Event::EmptyAgainstLanes);
+                self.seen.mark_if(store_at_empty, Event::StoreAtEmptyRefused);
+                self.seen.mark_if(store_at_empty && folds(c.operation), Event::StoreAtEmptyFold);
+                self.seen.mark_if(store_at_empty && no_lanes, Event::NoLanesStore);
+            }
             18 => {
                 let outside = self.written(c).iter().any(|&address| !self.is_inside(address, source.width));
+                let chunk = source.state == State::Open;
                 self.seen.mark_if(outside, Event::NoLanesOutside);
+                self.seen.mark_if(chunk, Event::EmptyNoLanes);
             }
             _ => {}
         }
@@ -122,6 +158,7 @@ impl Machine<'_> {
         let source = first.or(second);
         let again = operands.iter().find_map(|operand| lane(operand).map(|lane| operand[lane..].contains(&true)));
         let below = |one: Option<usize>, other: Option<usize>| one.is_some_and(|one| other.is_some_and(|other| one < other));
+        let chunk_of_none = self.registers[c.first].state == State::Open && operands[0].is_empty();
 
         let seen = &mut self.seen;
         seen.mark_if(first.is_some() && c.first == c.second && !has_one_source(c.operation), Event::TwiceOutside);
@@ -132,19 +169,22 @@ impl Machine<'_> {
             seen.mark_if(first.is_some(), Event::FoldSourceOutside);
             seen.mark_if(first.is_none(), Event::FoldStoreOutside);
             seen.mark_if(first.is_some() && store.is_some(), Event::FoldBothOutside);
+            seen.mark_if(chunk_of_none, Event::EmptySumOutside);
         }
     }
 
     /// An open stream is about to move on by some elements of its next chunk.
     pub fn note_move(&mut self, register: usize, elements: usize) {
+        self.note_pass(register, elements);
         if elements == 0 {
             return;
         }
         let stream = self.registers[register].stream();
         let lanes = self.vl / stream.width as usize;
         let chunk = &stream.elements[stream.moved..stream.moved + elements];
-        let last = &chunk[elements - 1];
-        let next = stream.elements.get(stream.moved + elements);
+        let last = &chunk[elements - 1].index;
+        let next = next_index(stream, elements);
+        let inside = stream.pass().is_some_and(|pass| stream.moved + elements < pass.elements.end);
         let cut = stream.kind == Kind::Load && elements < lanes && next.is_some();
         let seen = &mut self.seen;
         seen.mark_if(elements == lanes, Event::ChunkFull);
@@ -153,9 +193,11 @@ impl Machine<'_> {
         seen.mark_if(cut && stream.coupled == 2, Event::ChunkCoupled2);
         seen.mark_if(cut && stream.coupled == 3, Event::ChunkCoupled3);
         seen.mark_if(cut && stream.coupled > 3, Event::ChunkCoupledAbove);
-        seen.mark_if(chunk[0].index[1..] != last.index[1..], Event::ChunkOverPasses);
+        seen.mark_if(chunk[0].index[1..] != last[1..], Event::ChunkOverPasses);
+        seen.mark_if(inside && stream.kind == Kind::Load, Event::ChunkInsideCoupled);
+        seen.mark_if(inside && stream.kind == Kind::Store, Event::StoreInsideCoupled);
         if let Some(next) = next {
-            let clear = last.index[1..] == next.index[1..];
+            let clear = last[1..] == next[1..];
             seen.mark_if(clear, Event::FlagsNone);
             seen.mark_if(!clear, Event::FlagsSome);
         }
@@ -168,6 +210,48 @@ impl Machine<'_> {
             seen.mark_if(two_owners(stream, last), Event::TwoOwners);
             seen.mark_if(stream.modifiers.len() == 8, Event::EightModifiers);
         }
+    }
+
+    /// The same, where the stream is coupled and this ends the present pass.
+    fn note_pass(&mut self, register: usize, elements: usize) {
+        let stream = self.registers[register].stream();
+        let Some(pass) = stream.pass().filter(|pass| stream.moved + elements == pass.elements.end) else {
+            return;
+        };
+        let empty = pass.elements.is_empty();
+        let loads = stream.kind == Kind::Load;
+        let is_empty = |pass: &Pass| pass.elements.is_empty();
+        let before = stream.passed.checked_sub(1).map(|at| is_empty(&stream.passes[at]));
+        // Of the last pass listed it is not known whether it has elements.
+        let known = stream.whole || stream.passed + 2 < stream.passes.len();
+        let next = stream.passes.get(stream.passed + 1).filter(|_| known).map(is_empty);
+        let last = stream.whole && stream.passed + 1 == stream.passes.len();
+        let first_element = stream.moved == 0;
+        let waits = next == Some(true) && waits_empty(stream, pass);
+
+        let seen = &mut self.seen;
+        seen.mark_if(waits, Event::FlagWaitsEmpty);
+        seen.mark_if(!loads && !empty && next == Some(true), Event::StoreBeforeEmpty);
+        if !empty {
+            return;
+        }
+        seen.mark_if(first_element && !last, Event::FlagsBeforeElement);
+        if !loads {
+            seen.mark_if(first_element, Event::StorePassesFirst);
+            seen.mark_if(before == Some(true), Event::StorePassesTwice);
+            seen.mark_if(last, Event::StoreFinishedEmpty);
+            return;
+        }
+        seen.mark(Event::EmptyChunk);
+        seen.mark_if(stream.coupled == 1, Event::EmptyCoupled1);
+        seen.mark_if(stream.coupled == 2, Event::EmptyCoupled2);
+        seen.mark_if(stream.coupled > 2, Event::EmptyCoupledAbove);
+        seen.mark_if(stream.coupled == stream.dimensions.len(), Event::EmptyOutermost);
+        seen.mark_if(before.is_none(), Event::EmptyFirst);
+        seen.mark_if(last && !first_element, Event::EmptyLast);
+        seen.mark_if(before == Some(false) && next == Some(false), Event::EmptyBetween);
+        seen.mark_if(before == Some(true), Event::EmptyTwice);
+        seen.mark_if(last && first_element, Event::EmptyOnly);
     }
 }
 
@@ -190,22 +274,44 @@ const WIDTHS: [Event; 4] = [Event::Width1, Event::Width2, Event::Width4, Event::
 
 const FOLD_WIDTHS: [Event; 4] = [Event::FoldWidth1, Event::FoldWidth2, Event::FoldWidth4, Event::FoldWidth8];
 
+/// Where a stream stands once so many elements of its next chunk have moved: the index of the next element or, where these end the coupled
+/// pass, of the next pass; none at the stream's end.
+fn next_index(stream: &Stream, elements: usize) -> Option<&Index> {
+    match stream.pass() {
+        Some(pass) if stream.moved + elements == pass.elements.end => stream.passes.get(stream.passed + 1).map(|pass| &pass.index),
+        _ => stream.elements.get(stream.moved + elements).map(|element| &element.index),
+    }
+}
+
 /// Whether the pass of some dimension ends at `last` although its index could still grow: what is left of the pass is empty.
-fn skips_empty(stream: &Stream, last: &Element, next: Option<&Element>) -> bool {
+fn skips_empty(stream: &Stream, last: &Index, next: Option<&Index>) -> bool {
     (2..=stream.dimensions.len()).any(|dimension| {
-        let ends = next.is_none_or(|next| next.index[dimension..] != last.index[dimension..]);
-        ends && i64::from(last.index[dimension - 1]) + 1 < stream.parameter(dimension, Parameter::Size, &last.index)
+        let ends = next.is_none_or(|next| next[dimension..] != last[dimension..]);
+        ends && i64::from(last[dimension - 1]) + 1 < stream.parameter(dimension, Parameter::Size, last)
+    })
+}
+
+/// Whether the pass of some dimension goes on behind a coupled pass that ends, by other coupled passes and by no element.
+fn waits_empty(stream: &Stream, ended: &Pass) -> bool {
+    let next = &stream.passes[stream.passed + 1].index;
+    let element = match stream.elements.get(ended.elements.end) {
+        None if !stream.whole => return false,
+        element => element,
+    };
+    (stream.coupled + 1..=stream.dimensions.len()).any(|dimension| {
+        let goes_on = next[dimension..] == ended.index[dimension..];
+        goes_on && element.is_none_or(|element| element.index[dimension..] != ended.index[dimension..])
     })
 }
 
 /// How many modifiers of a parameter change something at an element.
-fn modified(stream: &Stream, at: &Element, parameter: Parameter) -> usize {
-    let changes = stream.modifiers.iter().filter(|m| m.parameter == parameter && m.displacement > 0 && at.index[m.owner - 1] > 0);
+fn modified(stream: &Stream, at: &Index, parameter: Parameter) -> usize {
+    let changes = stream.modifiers.iter().filter(|m| m.parameter == parameter && m.displacement > 0 && at[m.owner - 1] > 0);
     changes.count()
 }
 
 /// Whether two owners change one parameter of one dimension at an element.
-fn two_owners(stream: &Stream, at: &Element) -> bool {
-    let changing = || stream.modifiers.iter().filter(|m| m.displacement > 0 && at.index[m.owner - 1] > 0);
+fn two_owners(stream: &Stream, at: &Index) -> bool {
+    let changing = || stream.modifiers.iter().filter(|m| m.displacement > 0 && at[m.owner - 1] > 0);
     changing().any(|one| changing().any(|other| one.owner != other.owner && one.target == other.target && one.parameter == other.parameter))
 }

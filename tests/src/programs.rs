@@ -2,7 +2,8 @@
 //!
 //!     programs FOLDER        the folder that has them: target/bin
 //!
-//! What is held to the model: the sheets of `translate`, and the first line, the lane outside memory, the counts and the memory of `run`.
+//! What is held to the model: the sheets of `translate`, and the first line, the lane outside memory, the counts, how far each stream has
+//! moved, and the memory of `run`.
 //! The texts as a whole are held to the files of `expected/`, which were read by eye.
 
 use std::fs;
@@ -167,8 +168,8 @@ impl Tried {
         Ok(())
     }
 
-    /// The program `run`: its text is that of a file in `expected/`; its first line, the lane outside, the counts and the memory are the
-    /// model's. Answers the first line.
+    /// The program `run`: its text is that of a file in `expected/`; its first line, the lane outside, the counts, how far each stream has
+    /// moved and the memory are the model's. Answers the first line.
     fn ran(&mut self, name: &str, sheet: &[u8], vl: u64, image: &[u8]) -> Result<String, String> {
         self.made("sheet", sheet)?;
         self.made("image", image)?;
@@ -187,6 +188,11 @@ impl Tried {
         }
         let counts = format!("{}, {}", plural(numbers[2], "pass", "passes"), plural(numbers[3], "calculation", "calculations"));
         self.same(&format!("{name}: counts"), &[u8::from(text.lines().any(|line| line == counts))], &[1]);
+        for (number, register) in answer.registers.iter().enumerate().filter(|(_, register)| register.stream.is_some()) {
+            let line = text.lines().find(|line| line.starts_with(&format!("u{number} "))).unwrap_or("");
+            let moved = format!("{:9} moved  flags", register.stream().stops());
+            self.same(&format!("{name}: how far u{number} has moved"), &[u8::from(line.contains(&moved))], &[1]);
+        }
         let changed = memory.iter().zip(image).filter(|(now, before)| now != before).count();
         let last = format!("{changed} of {} memory bytes changed", image.len());
         self.same(&format!("{name}: last line"), text.lines().last().unwrap_or("").as_bytes(), last.as_bytes());
@@ -206,7 +212,7 @@ impl Tried {
     /// The examples of the repository that run on its image.
     fn examples(&mut self) -> Result<(), String> {
         let image = bytes_of(&example_text("image")?);
-        for name in ["first", "triangle", "coupled-triangle", "ragged-rows", "saxpy", "named-twice", "smoothing"] {
+        for name in ["first", "triangle", "coupled-triangle", "ragged-rows", "empty-rows", "saxpy", "named-twice", "smoothing"] {
             let text = example_text(name)?;
             let mut sheet = bytes_of(&text);
             if name == "smoothing" {
@@ -219,6 +225,7 @@ impl Tried {
             self.told(document, "target/bin/listing sheet", &format!("{name}.listing"))?;
             self.told(document, &format!("target/bin/run {vl} sheet image after"), &format!("{name}.run"))?;
         }
+        self.told("docs/USING.md", "target/bin/run 8 sheet image after", "empty-rows.run")?;
         self.told("docs/USING.md", "./run-c sheet image", "first.run-c")
     }
 
@@ -258,7 +265,7 @@ impl Tried {
     }
 
     /// Runs that are refused with 14, for each operand: document 01's words in 39 bytes, a second source that runs down below 0, the
-    /// first example in 72 bytes.
+    /// first example in 72 bytes. And rows of 0, 1 and 2 pixels in 33 bytes: the empty one has no address.
     fn outside(&mut self) -> Result<(), String> {
         let image = bytes_of(&example_text("image")?);
         let words = bytes_of("01 8B C1 15 04  02 01 00 05 04  04 01  05 01 01  00 02 01 01");
@@ -270,6 +277,8 @@ impl Tried {
             05 01 01  01 03 01 02",
         );
         self.ran("outside-second", &down, 8, &image)?;
+        let rows = bytes_of("01 8B 81 81 80 04 00  02 01 00 00 02  02 01 00 04 20  03 01 00 00 00 01  04 01  05 01 01  00 02 01 01");
+        self.ran("outside-after-empty", &rows, 8, &image[..33])?;
         self.ran("outside-destination", &bytes_of(&example_text("first")?), 16, &image[..72])?;
         self.told("docs/USING.md", "target/bin/run 16 sheet short", "outside-destination.run")?;
         self.told("docs/USING.md", "./run-c sheet short", "outside-destination.run-c")

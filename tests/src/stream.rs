@@ -1,7 +1,11 @@
-//! A stream: its loops, its elements, its chunks and its flags.
+//! A stream: its loops, its elements, the passes of its coupled dimension, its chunks and its flags.
 //!
-//! All of it is literal. The elements are listed by nested loops whose parameters are worked out anew from the owners' indices, a chunk
-//! is found by scanning the list, a flag by comparing an element with the next one. Nothing is carried from one element to the next.
+//! All of it is literal. The elements are listed by nested loops whose parameters are worked out anew from the owners' indices; of a
+//! coupled stream each pass of that dimension is listed with its elements, also where it has none. A chunk is the front of what is left
+//! of the present pass. A flag is found by comparing an element with the next one or, where a chunk ended its coupled pass, by looking
+//! through the later passes. Nothing is carried from one element to the next.
+
+use std::ops::Range;
 
 use crate::clauses::Clause;
 
@@ -44,6 +48,15 @@ pub struct Element {
     pub address: i64,
 }
 
+/// A pass of the coupled dimension that the loops outside it reach.
+#[derive(Clone, Debug)]
+pub struct Pass {
+    /// Of the loops outside; 0 in the coupled dimension and below.
+    pub index: Index,
+    /// Where its elements stand in the list of all. Of the last pass listed, those listed.
+    pub elements: Range<usize>,
+}
+
 #[derive(Clone, Debug)]
 pub struct Stream {
     pub kind: Kind,
@@ -53,16 +66,31 @@ pub struct Stream {
     pub base: i64,
     pub dimensions: Vec<Dimension>,
     pub modifiers: Vec<Modifier>,
-    /// The first elements of the loop: all of them if `whole`, else as many as were asked for up to now.
+    /// The first elements of the loop, and of a coupled stream the first passes: all of them if `whole`, else as many as were asked
+    /// for up to now.
     pub elements: Vec<Element>,
+    pub passes: Vec<Pass>,
     pub whole: bool,
-    /// How many elements have moved.
+    /// How many elements have moved, and how many coupled passes lie behind; of an uncoupled stream none do.
     pub moved: usize,
+    pub passed: usize,
 }
 
 impl Stream {
     pub fn new(kind: Kind, width: i64, coupled: usize, base: i64) -> Stream {
-        Stream { kind, width, coupled, base, dimensions: Vec::new(), modifiers: Vec::new(), elements: Vec::new(), whole: false, moved: 0 }
+        Stream {
+            kind,
+            width,
+            coupled,
+            base,
+            dimensions: Vec::new(),
+            modifiers: Vec::new(),
+            elements: Vec::new(),
+            passes: Vec::new(),
+            whole: false,
+            moved: 0,
+            passed: 0,
+        }
     }
 
     /// A parameter of a dimension while the owners of its modifiers stand at these indices.
@@ -96,39 +124,63 @@ impl Stream {
         address
     }
 
-    /// Runs the loops of `dimension` and all below it, and shows each index to `see` until it answers false. Answers whether it never did.
-    fn loops(&self, dimension: usize, index: &mut Index, see: &mut dyn FnMut(&Index) -> bool) -> bool {
-        if dimension == 0 {
+    /// Runs the loops from `outer` down to the one above `inner`, and shows each index to `see` until it answers false. Answers whether
+    /// it never did.
+    fn loops(&self, outer: usize, inner: usize, index: &mut Index, see: &mut dyn FnMut(&Index) -> bool) -> bool {
+        if outer == inner {
             return see(index);
         }
-        let size = self.parameter(dimension, Parameter::Size, index);
+        let size = self.parameter(outer, Parameter::Size, index);
         for k in 0..size {
-            index[dimension - 1] = k as u16;
-            if !self.loops(dimension - 1, index, see) {
+            index[outer - 1] = k as u16;
+            if !self.loops(outer - 1, inner, index, see) {
                 return false;
             }
         }
         true
     }
 
-    /// Lists the first `count` elements at least, or all if there are fewer.
+    /// Lists the first `count` elements and passes, both counted, at least, or all if there are fewer.
     pub fn list(&mut self, count: usize) {
-        if self.whole || self.elements.len() >= count {
+        if self.whole || self.elements.len() + self.passes.len() >= count {
             return;
         }
         let most = (4 * count).max(64);
+        let depth = self.dimensions.len();
         let mut elements = Vec::new();
-        let whole = self.loops(self.dimensions.len(), &mut [0; 7], &mut |index| {
-            elements.push(Element { index: *index, address: self.address(index) });
-            elements.len() < most
-        });
+        let mut passes: Vec<Pass> = Vec::new();
+        let element = |index: &Index| Element { index: *index, address: self.address(index) };
+        let whole = if self.coupled == 0 {
+            self.loops(depth, 0, &mut [0; 7], &mut |index| {
+                elements.push(element(index));
+                elements.len() < most
+            })
+        } else {
+            self.loops(depth, self.coupled, &mut [0; 7], &mut |outside| {
+                let from = elements.len();
+                let left = most.saturating_sub(from + passes.len() + 1);
+                let ended = left > 0
+                    && self.loops(self.coupled, 0, &mut outside.clone(), &mut |index| {
+                        elements.push(element(index));
+                        elements.len() < from + left
+                    });
+                passes.push(Pass { index: *outside, elements: from..elements.len() });
+                ended
+            })
+        };
         self.elements = elements;
+        self.passes = passes;
         self.whole = whole;
+    }
+
+    /// Whether there is a chunk at all: of a coupled stream, whether the loops outside reach a pass; else whether there is an element.
+    pub fn has_chunk(&self) -> bool {
+        !self.loops(self.dimensions.len(), self.coupled, &mut [0; 7], &mut |_| false)
     }
 
     /// Whether the loops reach an element at all.
     pub fn has_element(&self) -> bool {
-        !self.loops(self.dimensions.len(), &mut [0; 7], &mut |_| false)
+        !self.loops(self.dimensions.len(), 0, &mut [0; 7], &mut |_| false)
     }
 
     /// The rules at end: 8 from the outermost dimension inward, then 9. Leaves at the first dimension that breaks 8, so that the numbers
@@ -163,33 +215,63 @@ impl Stream {
         Ok(())
     }
 
-    /// The next chunk, among the elements listed.
+    /// The coupled pass that the next chunk is of; none if the stream is uncoupled, or finished.
+    pub fn pass(&self) -> Option<&Pass> {
+        self.passes.get(self.passed)
+    }
+
+    /// Whether the next chunk is that of a coupled pass without elements.
+    pub fn at_empty_pass(&self) -> bool {
+        self.pass().is_some_and(|pass| pass.elements.is_empty())
+    }
+
+    /// The next chunk, among the elements listed: the next elements, as many as there are lanes, fewer at the end of the stream or, if
+    /// coupled, at the end of the current pass of that dimension. A pass without elements gives one of no lanes.
     pub fn chunk(&self, lanes: usize) -> &[Element] {
-        let rest = &self.elements[self.moved..];
-        let mut taken = 0;
-        while taken < lanes && taken < rest.len() && self.same_coupled_pass(&rest[0], &rest[taken]) {
-            taken += 1;
+        let end = self.pass().map_or(self.elements.len(), |pass| pass.elements.end);
+        let rest = &self.elements[self.moved..end];
+        &rest[..lanes.min(rest.len())]
+    }
+
+    /// Moves on by so many elements of the next chunk. Where that is all that is left of a coupled pass, the pass lies behind: also one
+    /// without elements, by 0 of them.
+    pub fn move_on(&mut self, elements: usize) {
+        self.moved += elements;
+        if self.pass().is_some_and(|pass| pass.elements.end == self.moved) {
+            self.passed += 1;
         }
-        &rest[..taken]
     }
 
-    /// Whether two elements lie in one pass of the coupled dimension: no index above it differs.
-    fn same_coupled_pass(&self, one: &Element, other: &Element) -> bool {
-        self.coupled == 0 || !differ_above(self.coupled, one, other)
+    /// How far it has moved, as the program `run` tells it: the elements, and one for each coupled pass without elements that lies behind.
+    pub fn stops(&self) -> usize {
+        self.moved + self.passes[..self.passed].iter().filter(|pass| pass.elements.is_empty()).count()
     }
 
-    /// Whether the last element moved is the last of its pass of a dimension.
+    /// Whether the last chunk lies behind: that of the last coupled pass, or of the last element.
+    pub fn is_at_end(&self) -> bool {
+        self.whole && self.moved == self.elements.len() && self.passed == self.passes.len()
+    }
+
+    /// The coupled pass that the last chunk, or store, ended; none if that ended inside its pass, or the stream is uncoupled, or nothing has
+    /// moved.
+    pub fn ended_pass(&self) -> Option<&Pass> {
+        let last = self.passes.get(self.passed.checked_sub(1)?)?;
+        (last.elements.end == self.moved).then_some(last)
+    }
+
+    /// The flag of a dimension.
     pub fn flag(&self, dimension: usize) -> bool {
-        if self.moved == self.elements.len() && self.whole {
+        if self.is_at_end() {
             return true;
+        }
+        if let Some(ended) = self.ended_pass() {
+            let same_pass = |later: &Pass| later.index[dimension..] == ended.index[dimension..];
+            return dimension < self.coupled || !self.passes[self.passed..].iter().any(same_pass);
         }
         if self.moved == 0 {
             return false;
         }
-        differ_above(dimension, &self.elements[self.moved - 1], &self.elements[self.moved])
+        // The last element moved is the last of its pass: the next differs in an index above.
+        self.elements[self.moved - 1].index[dimension..] != self.elements[self.moved].index[dimension..]
     }
-}
-
-fn differ_above(dimension: usize, one: &Element, other: &Element) -> bool {
-    one.index[dimension..] != other.index[dimension..]
 }

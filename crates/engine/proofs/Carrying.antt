@@ -18,7 +18,6 @@ use Rattle.codec.specs.declared.operation.Task.{Task}
 use Rattle.engine.specs.Lanes.{outcome, outcomeCount}
 use Rattle.codec.specs.TestLaws.{never}
 use Rattle.engine.specs.Loops.{natural}
-use Rattle.engine.specs.Chunks.{chunk}
 use Rattle.engine.specs.Addresses.{noBytes, address}
 use Rattle.engine.specs.Memory.{valueAt, lanesFrom, packed, holding}
 use Rattle.engine.specs.Registers.{isOpen}
@@ -33,7 +32,7 @@ use Rattle.engine.specs.EffectGood.{outcome-fits}
 use Rattle.engine.specs.FoldLaws.{outcome-small}
 use Rattle.engine.specs.Good.{IsWidth}
 use Rattle.engine.proofs.LaneCounts.{few-lanes}
-use Rattle.engine.specs.Operands.{operandFrom, Taken, lanesOf}
+use Rattle.engine.specs.Operands.{frontOf, operandFrom, Taken, lanesOf}
 use Rattle.engine.specs.Calculations.{lanesIn}
 use Rattle.engine.specs.declared.stream.Pattern.{Pattern}
 use Rattle.engine.specs.declared.running.Running.{Running}
@@ -125,7 +124,7 @@ pub taken-long : (p : Pattern) (before row : List ℕ) (q : Running) (most plain
 taken-long p before row q most plain xs o t e =
     let h = t .operates [] in
     let f : isOpen (q .state) ≡ true = sym (h .told) ∙ e in
-    ap length (h .addressed f) ∙ length-map (chunk (p .shape) most (q .moved)) (address p (q .width)) ∙ sym (rw f at (h .counted))
+    ap length (h .addressed f) ∙ length-map (frontOf (viewOf p [] before q) most) (address p (q .width)) ∙ sym (rw f at (h .counted))
 
 -- a source after a calculation
 module _ (p : Pattern) (before row : List ℕ) (q : Running) (most plain : ℕ) (xs : List (List ℤ)) (o : Ahead) (t : Taken p before q most plain row xs o) (memory lanes : List ℕ) where

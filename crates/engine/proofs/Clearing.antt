@@ -1,7 +1,7 @@
 -- What the checks of a calculation on running registers found, from the checks on the registers that they stand for.
 --
 --   ready              an open stream is ready for its next chunk
---   moved-room         elements moved are few
+--   moved-room         stops gone past are few
 --   turned-down        a refused calculation
 --   by-operands        why, once states and widths fit
 --   unblamed, second-blamed   14 of an operand that is not refused; of the second source that is the first once more
@@ -21,10 +21,11 @@ use Rattle.codec.specs.declared.refusal.Role.{Role}
 use Rattle.codec.specs.declared.refusal.Role.the-variants as role
 use Rattle.codec.specs.declared.refusal.Refusal.{Refusal}
 use Rattle.engine.specs.Checks.{firstOf}
-use Rattle.engine.specs.Loops.{elements}
-use Rattle.engine.specs.Chunks.{chunk}
-use Rattle.engine.specs.ChunkLaws.{covered, chunk-elements}
-use Rattle.engine.specs.CountLaws.{few}
+use Rattle.engine.specs.Loops.{sizeAt}
+use Rattle.engine.specs.Chunks.{stops, chunk}
+use Rattle.engine.specs.ChunkLaws.{covered, chunk-stops}
+use Rattle.engine.specs.StopLaws.{among-length}
+use Rattle.engine.specs.CountLaws.{few-stops}
 use Rattle.engine.specs.Lanes.{outcomeCount}
 use Rattle.engine.specs.Registers.{isOpen}
 use Rattle.engine.specs.Stretches.{allWithin}
@@ -32,7 +33,7 @@ use Rattle.engine.specs.Places.{Ready}
 use Rattle.engine.specs.GoodLaws.{next, more}
 use Rattle.engine.specs.CalculationLaws.{nothing}
 use Rattle.engine.specs.LaneLaws.{width-range}
-use Rattle.engine.specs.Runnings.{viewOf, bare, listedIn}
+use Rattle.engine.specs.Runnings.{viewOf, bare, goneBy, listedIn}
 use Rattle.engine.specs.Operands.{operandFrom, Taken, outsideOf, whyOn}
 use Rattle.engine.specs.Calculations.{Fit, Cleared}
 use Rattle.engine.proofs.Ordered.{states, after, widths, lacking, flags, fits, outcome-room, one-width, store-width, target-few, third-outside}
@@ -70,17 +71,21 @@ ready vl p row q f e =
 abbrev pub lanesDiffer : Task → Ahead → Ahead → Ahead → Bool
 lanesDiffer t x y z = not (eqb (x .count) (y .count)) || z .live && ltb (z .count) (outcomeCount t (x .count))
 
--- elements moved are few
+-- stops gone past are few
 pub moved-room : (vl : ℕ) (p : Pattern) (before : List ℕ) (q : Running) → Fit vl p before q → (most plain : ℕ) (row : List ℕ) (xs : List (List ℤ)) (o : Ahead) → Taken p before q most plain row xs o
-    → o .live ≡ true → q .moved + o .count < 2 ^ 32
+    → o .live ≡ true → q .moved + goneBy q (o .count) < 2 ^ 32
 moved-room vl p before q f most plain row xs o t e =
     let s = p .shape in
     let g : isOpen (q .state) ≡ true = sym (t .operates [] .told) ∙ e in
     let y = ready vl p before q f g in
     let n = length (chunk s most (q .moved)) in
-    let c : o .count ≡ n = rw g at (t .operates [] .counted) in
-    let l : length (take n (drop (q .moved) (elements s))) ≤ length (elements s) - q .moved = simp (length-take, length-drop) (omega arith) in
-    omega (arith, c, l, ap length (chunk-elements s most (q .moved) (covered s (s .coupling) (y .accepted .covered))), y .some, few s, y .accepted .few)
+    let c : o .count ≤ n = subst (λ k. k ≤ n) (sym (rw g at (t .operates [] .counted))) (among-length (sizeAt s) (chunk s most (q .moved))) in
+    let l : length (take n (drop (q .moved) (stops s))) ≤ length (stops s) - q .moved = simp (length-take, length-drop) (omega arith) in
+    omega (arith, c, l, one-or (eqb (q .size) 0) (o .count), ap length (chunk-stops s most (q .moved)), y .some, few-stops s (covered s (s .coupling) (y .accepted .covered)), y .accepted .few)
+  where
+    one-or : (b : Bool) (n : ℕ) → cond b 1 n ≤ n + 1
+    one-or true n = omega arith
+    one-or false n = omega arith
 
 -- 14 refuses no operand: every element lies inside
 pub unblamed : (role : Role) (len width : ℕ) (o : Ahead) (l : List (List ℤ)) → firstOf (outsideOf role len width o l ∷ []) ≡ Nothing

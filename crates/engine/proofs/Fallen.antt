@@ -25,8 +25,8 @@ use Rattle.engine.specs.Registers.{isOpen, shapeOf, nextChunk, reg}
 use Rattle.engine.specs.Calculate.{World}
 use Rattle.engine.specs.Sheets.{refusedAt, run}
 use Rattle.engine.specs.Good.{Good}
-use Rattle.engine.specs.CountLaws.{few}
-use Rattle.engine.specs.ComeLaws.{IsStream, next-within}
+use Rattle.engine.specs.CountLaws.{few-stops}
+use Rattle.engine.specs.ComeLaws.{IsStream, next-within, open-covered, next-fewer}
 use Rattle.engine.specs.HistoryLaws.{pattern-kept, stream-from, width-kept}
 use Rattle.engine.specs.Histories.{noPlaced, inTurn, Ran}
 use Rattle.engine.specs.RanLaws.{ran-turned}
@@ -130,14 +130,14 @@ module _ (vl : ℕ) (s memory : List ℕ) (p : areBytes s) (lane : ℕ) (r : Rol
         next = record { at = b .0 };
         stands = ap (calculationAt s) (d .1) ∙ calculated-read s (c .place) (c .calculation) (b .0) (b .1);
         refused = d .0;
-        small = omega (arith, next-within vl q good open-now, o .moves, few (shapeOf q), good .opened open-now .0 .accepted .few);
+        small = omega (arith, next-within vl q good open-now, o .moves, next-fewer vl q, few-stops (shapeOf q) (open-covered vl q good open-now), good .opened open-now .0 .accepted .few);
         at = address (q .pattern) (q .width) (getD (nextChunk vl q) lane []);
         located =
             ap (λ z. elementOf (reg z i) n) (k .machine)
             ∙ element-stream n (reg m i) was
             ∙ (λ z. locatedIn (sym pattern z) (sym width z) n)
             ∙ sym (element-stream n q (rw open-now))
-            ∙ element-lane vl lane q good open-now (o .moves);
+            ∙ element-lane vl lane q (f .least) good open-now (o .moves);
         lies = o .lies;
       }
 

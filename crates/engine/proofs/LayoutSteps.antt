@@ -10,15 +10,14 @@ use mathlib.Core.List.{List, []}
 use mathlib.Core.Bool.{false}
 use mathlib.Core.Logic.{_≢_}
 use native.Mathlib.Omega.{arith}
-use lib.ListN.{length, getD, set, drop, length-set}
+use lib.ListN.{length, getD, set, length-set}
 use lib.Seq.{getD-set-same, getD-set-other, set-getD}
 use lib.IntN.{ℤ, pos}
-use Rattle.engine.specs.Loops.{sizeAt}
-use Rattle.engine.specs.Addresses.{noBytes, address, inBytes, strideAt}
+use Rattle.engine.specs.Addresses.{noBytes}
 use Rattle.engine.specs.Registers.{noRegister, isOpen}
 use Rattle.engine.specs.Rows.{shapeIn, inBytesOf, offsetsIn, stridesIn, patternIn, patternAt}
 use Rattle.engine.specs.Places.{placeAt}
-use Rattle.engine.specs.Runnings.{viewOf, placeOf, Remembers}
+use Rattle.engine.specs.Runnings.{spotted, viewOf, Remembers}
 use Rattle.engine.specs.Layouts.{noRunning, beginning, viewAt, registersIn, LaidOut}
 use Rattle.engine.specs.LayoutLaws.{at-or-other, views-are}
 use Rattle.engine.specs.declared.stream.Pattern.{Pattern}
@@ -39,13 +38,11 @@ module _ (r : Register) (s : Spot) where
       let z = set-getD (r .index) 0 0 in
       λ t. record { state = r .state; width = r .width; valid = r .valid; lanes = r .lanes; kind = r .kind; pattern = r .pattern; moved = r .moved; index = z t; height = r .height }
 
-  -- and remembers its next element, if that is what is reckoned there
-  pub begins-open : (p : Pattern) → p ≡ r .pattern → s .address .0 ≡ address p (r .width) (r .index) → s .size ≡ sizeAt (p .shape) 0 (drop 1 (r .index))
-      → s .step .0 ≡ inBytes (strideAt p 0 (drop 1 (r .index))) 1 (r .width) → Remembers (r .pattern) (r .index) (beginning r s)
-  begins-open p e a b c o =
+  -- and remembers its next stop, if that is what is reckoned there
+  pub begins-open : (p : Pattern) → p ≡ r .pattern → spotted (r .index) s ≡ placeAt p (r .width) (r .index) → Remembers (r .pattern) (r .index) (beginning r s)
+  begins-open p e a o =
       let z : set (r .index) 0 (getD (r .index) 0 0) ≡ r .index = set-getD (r .index) 0 0 in
-      let f : placeOf (r .index) (beginning r s) ≡ placeAt p (r .width) (r .index) = λ t. record { index = z t; address = record { 0 = a t }; size = b t; step = record { 0 = c t } } in
-      f ∙ (λ t. placeAt (e t) (r .width) (sym z t))
+      (λ t. spotted (z t) s) ∙ a ∙ (λ t. placeAt (e t) (r .width) (sym z t))
 
   -- one that is not open remembers nothing
   pub begins-shut : isOpen (r .state) ≡ false → Remembers (r .pattern) (r .index) (beginning r s)

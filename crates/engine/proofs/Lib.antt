@@ -33,6 +33,8 @@ pub mod Fallen
 pub mod Steadiness
 mod Summing
 pub mod RowSums
+pub mod Listed
+pub mod InTurn
 pub mod Looking
 pub mod Carrying
 mod Taking

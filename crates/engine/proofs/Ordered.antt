@@ -15,7 +15,9 @@ use Rattle.codec.specs.declared.refusal.Role.{Role}
 use Rattle.codec.specs.declared.refusal.Role.the-variants as role
 use Rattle.codec.specs.declared.refusal.Refusal.{Refusal}
 use Rattle.codec.specs.declared.refusal.Refusal.the-variants.{Widths, LaneCounts, NoLanes}
-use Rattle.engine.specs.Chunks.{streamGroups}
+use Rattle.engine.specs.Loops.{sizeAt}
+use Rattle.engine.specs.Chunks.{streamGroups, chunk}
+use Rattle.engine.specs.StopLaws.{among-length}
 use Rattle.engine.specs.ChunkLaws.{chunk-lanes}
 use Rattle.engine.specs.Lanes.{outcome, outcomeCount, wantsLanes}
 use Rattle.engine.specs.Memory.{holding}
@@ -187,7 +189,9 @@ pub target-few : (n : ℕ) (d : Register) (o : Operand) → Operates d n n o →
 target-few n d o h = go (isOpen (d .state)) refl
   where
     go : (t : Bool) → isOpen (d .state) ≡ t → o .count ≤ n
-    go true e = rw (rw e at (h .counted)) (chunk-lanes (streamGroups (shapeOf d)) n (d .moved))
+    go true e =
+        rw (rw e at (h .counted))
+        (omega (arith, among-length (sizeAt (shapeOf d)) (chunk (shapeOf d) n (d .moved)), chunk-lanes (streamGroups (shapeOf d)) n (d .moved)))
     go false e = rw (rw e at (h .counted)) (le-refl n)
 
 -- the ways that a check on the operands refuses

@@ -14,9 +14,10 @@ use lib.ListN.{length, getD, take, drop, set, length-take, length-drop}
 use lib.Seq.{drop-cons, getD-take}
 use Rattle.codec.specs.declared.refusal.Refusal.{Refusal}
 use Rattle.engine.specs.Configure.{unlessBecause}
-use Rattle.engine.specs.CountLaws.{few}
+use Rattle.engine.specs.CountLaws.{few-stops}
+use Rattle.engine.specs.ComeLaws.{open-covered}
 use Rattle.engine.specs.Registers.{isOpen, shapeOf, toCome, reg}
-use Rattle.engine.specs.Loops.{elements}
+use Rattle.engine.specs.Chunks.{stops}
 use Rattle.engine.specs.Calculate.{World, refusalOf, effect, results, readFrom, writtenTo, memoryAfter}
 use Rattle.engine.specs.Operands.{whyOn, resultsOn, Calculated}
 use Rattle.engine.specs.Run.{Progress, counted, step, pass, passBy, execute}
@@ -146,13 +147,13 @@ unfolding passBy
 passed vl n steps p rs₀ memory₀ q₀ rs memory q k i h =
     sym (i .same) ∙ ap (λ cs. pass vl cs (soFar rs memory p q)) (lib.ListN.drop-of-length-le (take n steps) {i = k} (simp length-take (omega arith)))
 
--- at most 2^20 elements are to come
+-- at most 2^20 stops are to come
 come-few : (vl : ℕ) (r : Register) → Good vl r → length (toCome r) ≤ 1048576
 unfolding toCome
 come-few vl r g = go (isOpen (r .state)) refl
   where
-    go : (b : Bool) → isOpen (r .state) ≡ b → length (cond b (drop (r .moved) (elements (shapeOf r))) []) ≤ 1048576
-    go true e = omega (arith, length-drop (r .moved) (elements (shapeOf r)), few (shapeOf r), g .opened e .0 .accepted .few)
+    go : (b : Bool) → isOpen (r .state) ≡ b → length (cond b (drop (r .moved) (stops (shapeOf r))) []) ≤ 1048576
+    go true e = omega (arith, length-drop (r .moved) (stops (shapeOf r)), few-stops (shapeOf r) (open-covered vl r g e), g .opened e .0 .accepted .few)
     go false e = omega arith
 
 -- between passes: what follows gives what the whole run gives

@@ -4,7 +4,7 @@
 --   at-each, at-end, streams      the streams at every moment of a run; at its end; both together
 --   promise2
 use Prim.Native.Nat.{ℕ, _≤_, _<_}
-use mathlib.Core.Path.{_≡_, refl, sym, ap, subst}
+use mathlib.Core.Path.{_≡_, refl, sym, _∙_, ap, subst}
 use mathlib.Core.Logic.{_⊎_, inl, inr}
 use mathlib.Core.List.{List, []}
 use native.Mathlib.Omega.{arith}
@@ -17,7 +17,8 @@ use Rattle.engine.specs.Calculate.{World}
 use Rattle.engine.specs.Run.{Progress, begun, execute}
 use Rattle.engine.specs.EndLaws.{Running}
 use Rattle.engine.specs.Histories.{worldAt, movedOf, Ran}
-use Rattle.engine.specs.Given.{Stream, Given, none, going, ended, givenFor}
+use Rattle.engine.specs.Given.{Stream, stopsOf, elementsIn, patternOf, Given, none, going, ended, givenFor}
+use Rattle.engine.specs.StopLaws.{stops-elements}
 use Rattle.engine.specs.GivenLaws.{InRegister, Has, before-has}
 use Rattle.engine.specs.MomentLaws.{inside-finished, inside-moment}
 use Rattle.engine.specs.MovingLaws.{world-last, follow-inside}
@@ -31,9 +32,10 @@ use Rattle.engine.specs.declared.register.State.the-variants.{Plain, Con
 use Rattle.engine.specs.declared.register.Register.{Register}
 use Rattle.engine.specs.declared.register.Machine.{Machine}
 use Rattle.engine.specs.declared.run.Placed.{Placed}
+use Rattle.engine.specs.declared.run.Verdict.the-variants.{Done}
 
 -- an open or finished register is not plain
-not-plain : {X : Type 0} (k : State) → (k ≡ Open) ⊎ (k ≡ Finished) → k ≡ Plain → X
+pub not-plain : {X : Type 0} (k : State) → (k ≡ Open) ⊎ (k ≡ Finished) → k ≡ Plain → X
 not-plain k (inl e) f = absurd (let z : _≡_ {A = ℕ} 0 1 = cc in omega arith)
 not-plain k (inr e) f = absurd (let z : _≡_ {A = ℕ} 0 1 = cc in omega arith)
 
@@ -71,6 +73,10 @@ module _ (vl : ℕ) (s memory : List ℕ) (os : List Operation) (at : ℕ) (m : 
         (world-last vl (q .entries) (world m memory) (r .world) (q .follow))
         (at-each i h t e (length (q .entries))))
 
+    -- the loop register's stream, once the run is done
+    all : (t : Stream) → givenFor loop os ≡ ended t → r .verdict ≡ Done → movedOf (q .entries) loop ≡ stopsOf t
+    all t e v = inside-finished t (movedOf (q .entries) loop) (reg (r .world .machine) loop) (at-end loop (g .below) t e) .0 (ap isFinished (q .done v .1))
+
     -- the streams of the run
     streams : LoopsOn loop cs m → Streams vl os m memory loop cs r
     streams l =
@@ -80,7 +86,8 @@ module _ (vl : ℕ) (s memory : List ℕ) (os : List Operation) (at : ℕ) (m : 
           moments = λ i h t e k n. inside-moment t _ (worldAt (world m memory) (q .entries) k .machine) i h (at-each i h t e k);
           stream = t;
           is-ended = e;
-          all = λ v. inside-finished t (movedOf (q .entries) loop) (reg (r .world .machine) loop) (at-end loop (g .below) t e) .0 (ap isFinished (q .done v .1));
+          all = all t e;
+          all-moved = λ v. ap (elementsIn t) (all t e v) ∙ stops-elements (patternOf t .shape) (at-end loop (g .below) t e .covers);
         }
 
 -- for every sheet

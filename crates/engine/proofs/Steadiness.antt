@@ -15,6 +15,7 @@ use lib.Seq.{sets}
 use Rattle.codec.specs.declared.header.Kind.the-variants.{Store}
 use Rattle.codec.specs.declared.operation.Calculation.{Calculation}
 use Rattle.codec.specs.declared.operation.Operation.{Operation}
+use Rattle.engine.specs.Chunks.{heldIn}
 use Rattle.engine.specs.Memory.{valueAt, littleEndian, spot, fetch, stored, holding}
 use Rattle.engine.specs.ByteLaws.{length-little, value-sets}
 use Rattle.engine.specs.Registers.{reg}
@@ -23,12 +24,12 @@ use Rattle.engine.specs.Allowed.{Destination}
 use Rattle.engine.specs.HistoryLaws.{AllNamed}
 use Rattle.engine.specs.Histories.{Becomes, Stores, Entry, Follow, worldAt, movedOf, inTurn}
 use Rattle.engine.specs.Run.{Progress}
-use Rattle.engine.specs.Given.{Stream, patternOf, Given, none, going, ended, givenFor}
+use Rattle.engine.specs.Given.{Stream, elementsIn, patternOf, Given, none, going, ended, givenFor}
 use Rattle.engine.specs.GivenLaws.{Has, before-has}
 use Rattle.engine.specs.Promise1.{DoneBefore, world}
 use Rattle.engine.specs.Promise2.{Streams}
 use Rattle.engine.specs.StreamSums.{streamWidth, allOf, valuesOf, noEntry, entryAt, calculationOf, DidIn, Steady, spotOf, Clear, StoresApart}
-use Rattle.engine.specs.SumLaws.{did-at, after-at, named-entry, At, taken-place, taken-past}
+use Rattle.engine.specs.SumLaws.{did-at, after-at, named-entry, At, held-place, held-past}
 use Rattle.engine.specs.declared.stream.Pattern.{Pattern}
 use Rattle.engine.specs.declared.register.State.{State}
 use Rattle.engine.specs.declared.register.State.the-variants.{Plain, Open}
@@ -58,7 +59,7 @@ module _ (vl : ℕ) (w v : World) (es : List Entry) (f : Follow vl w es v)
 
     -- a history in which every destination is plain is steady
     pub unstored-steady : (t : Stream) (i : ℕ) → Steady t w es i
-    unstored-steady t i k h = ap (λ memory. valuesOf t memory (entryAt es k .taken i)) (memory-kept k (omega arith))
+    unstored-steady t i k h = ap (λ memory. valuesOf t memory (elementsIn t (entryAt es k .taken i))) (memory-kept k (omega arith))
 
 -- ---- what is stored lies apart
 
@@ -83,7 +84,8 @@ shut-after : {vl : ℕ} {c : Calculation} {w : World} {out : List ℕ} {i : ℕ}
     → ¬ (reg (w .machine) i .state ≡ Open) → ¬ (q .state ≡ Open)
 unfolding holding
 shut-after (Becomes.plain p s x y) n o = not-open _ (ap (λ (r : Register). r .state) y ∙ s) o
-shut-after (Becomes.store p s x y) n o = n s
+shut-after (Becomes.store p s t x y) n o = n s
+shut-after (Becomes.past p s t z x y) n o = n s
 shut-after (Becomes.load p f s x y) n o = n s
 shut-after (Becomes.source p f s x y) n o = n (ap (λ (r : Register). r .state) (sym y) ∙ o)
 shut-after (Becomes.other p f g x y) n o = n (ap (λ (r : Register). r .state) (sym y) ∙ o)
@@ -147,12 +149,12 @@ module _ (vl : ℕ) (s memory : List ℕ) (os : List Operation) (at : ℕ) (m : 
               let a : At u w es to = q .moments to below u g in
               let clear : Clear t u = apart (k % length cs) (mod-lt k some) u (ap (λ (p : Placed). givenFor (p .calculation .destination) os) (sym turn) ∙ g) (is-store u a (d .calculates .destination) o) in
               let y = a k (omega arith) in
-              ap (λ z. valueAt z (spotOf t n) (streamWidth t)) (x ∙ (λ z. stored (y .pattern z) (y .width z) (worldAt w es k .memory) (entryAt es k .taken to) (d .out)))
-              ∙ stored-clear (patternOf u) (streamWidth u) (spotOf t n) (streamWidth t) (entryAt es k .taken to) (d .out) (worldAt w es k .memory)
+              ap (λ z. valueAt z (spotOf t n) (streamWidth t)) (x ∙ (λ z. stored (y .pattern z) (y .width z) (worldAt w es k .memory) (heldIn (y .pattern z .shape) (entryAt es k .taken to)) (d .out)))
+              ∙ stored-clear (patternOf u) (streamWidth u) (spotOf t n) (streamWidth t) (elementsIn u (entryAt es k .taken to)) (d .out) (worldAt w es k .memory)
               (λ j p.
               subst (λ v. (spotOf t n + streamWidth t ≤ spot (patternOf u) (streamWidth u) v) ⊎ (spot (patternOf u) (streamWidth u) v + streamWidth u ≤ spotOf t n))
-              (sym (taken-place u w es to a k h j p))
-              (clear n (length (movedOf (take k es) to) + j) l (omega (arith, taken-past u w es to a k h))))
+              (sym (held-place u w es to a k h j p))
+              (clear n (length (elementsIn u (movedOf (take k es) to)) + j) l (omega (arith, held-past u w es to a k h))))
 
       -- so at every moment it is what it was at the start
       element-kept : (k n : ℕ) → k ≤ length es → n < length (allOf t)
@@ -165,8 +167,8 @@ module _ (vl : ℕ) (s memory : List ℕ) (os : List Operation) (at : ℕ) (m : 
       -- what the stream reads is what memory held at the start
       pub apart-steady : (i : ℕ) → At t w es i → Steady t w es i
       apart-steady i a k h =
-          map-same _ _ [] (entryAt es k .taken i)
+          map-same _ _ [] (elementsIn t (entryAt es k .taken i))
           (λ j p.
           subst (λ v. fetch (patternOf t) (streamWidth t) (worldAt w es k .memory) v ≡ fetch (patternOf t) (streamWidth t) memory v)
-          (sym (taken-place t w es i a k h j p))
-          (element-kept k (length (movedOf (take k es) i) + j) (omega arith) (omega (arith, taken-past t w es i a k h))))
+          (sym (held-place t w es i a k h j p))
+          (element-kept k (length (elementsIn t (movedOf (take k es) i)) + j) (omega arith) (omega (arith, held-past t w es i a k h))))

@@ -1,20 +1,25 @@
 -- One entry of a history: what a stream gives in it is what it reads, and a calculation 8 gives the sum of that.
 --
---   source, load-moved    a source gives the chunk read; what a load moves
+--   source, load-moved    a source gives the chunk read; what a load goes past
 --   read                  what is read (`Read` of specs/RowSums)
 --   summed                what a calculation 8 gives (`Summed`)
-use Prim.Native.Nat.{ℕ, zero, suc, _+_, _*_, _/_, _^_, _≤_, _<_}
+use Prim.Native.Nat.{ℕ, zero, suc, _+_, _*_, _/_, _^_, _≤_, _<_, min}
 use mathlib.Core.Path.{_≡_, refl, sym, _∙_, ap, ap₂, subst}
 use mathlib.Core.Logic.{_⊎_, inl, inr, ⊎-elim}
 use mathlib.Core.List.{List, [], _∷_, map}
+use mathlib.Core.Bool.{false}
 use native.Mathlib.Omega.{arith}
 use native.Mathlib.Nat.{mod-lt}
-use lib.ListN.{length, getD, take, drop}
+use lib.ListN.{length, getD, take, drop, length-take}
+use lib.Seq.{getD-take, getD-drop}
 use lib.Pow.{pow-pos}
+use borrow.Author.Tests.{not-false}
 use Rattle.codec.specs.declared.header.Kind.the-variants.{Load}
 use Rattle.codec.specs.declared.operation.Fold.the-variants.{Sum}
 use Rattle.codec.specs.declared.operation.Task.the-variants.{All}
-use Rattle.engine.specs.Loops.{elements}
+use Rattle.engine.specs.Loops.{sizeAt}
+use Rattle.engine.specs.Chunks.{stops, isElement, elementsAmong, heldIn, nothingAt}
+use Rattle.engine.specs.StopLaws.{among-all}
 use Rattle.engine.specs.Memory.{fetch, stored, contents, holding}
 use Rattle.engine.specs.Lanes.{folded, outcome}
 use Rattle.engine.specs.Registers.{shapeOf, movedTo, reg}
@@ -28,6 +33,7 @@ use Rattle.engine.specs.Given.{Stream, AtMoment}
 use Rattle.engine.specs.StreamSums.{streamWidth, sumOf, calculationOf, DidIn, destinationOf, chunkRead}
 use Rattle.engine.specs.RowSums.{Read, Summed}
 use Rattle.engine.specs.SumLaws.{open-or-finished}
+use Rattle.engine.specs.declared.stream.Shape.{Shape}
 use Rattle.engine.specs.declared.register.State.{State}
 use Rattle.engine.specs.declared.register.State.the-variants.{Plain, Open, Finished}
 use Rattle.engine.specs.declared.register.Register.{Register}
@@ -49,6 +55,17 @@ one-lane width x r h l = holding-contents width (x ∷ []) r small (omega arith)
     small zero = h
     small (suc k) = pow-pos (8 * width)
 
+-- the next stop, where it is an element
+next-held : (s : Shape) (n : ℕ) → nothingAt s n ≡ false → heldIn s (take 1 (drop n (stops s))) ≡ take 1 (drop n (stops s))
+unfolding nothingAt
+next-held s n e =
+    among-all (sizeAt s) (take 1 (drop n (stops s)))
+    (λ j h.
+    let m : length (take 1 (drop n (stops s))) ≡ min 1 (length (drop n (stops s))) = length-take 1 (drop n (stops s)) in
+    let z : n + j ≡ n = omega arith in
+    ap (isElement (sizeAt s) 0) (getD-take 1 (drop n (stops s)) j [] (omega arith) ∙ getD-drop n (stops s) j [] ∙ ap (λ k. getD (stops s) k []) z)
+    ∙ not-false (isElement (sizeAt s) 0 (getD (stops s) n [])) e)
+
 -- ---- one entry
 
 module _ (vl : ℕ) (t : Stream) (w : World) (e : Entry) (i : ℕ) (soFar : List (List ℕ)) (a : AtMoment t soFar (w .machine) i) where
@@ -64,7 +81,7 @@ module _ (vl : ℕ) (t : Stream) (w : World) (e : Entry) (i : ℕ) (soFar : List
   no-store k (Destination.store p s) o = let z : _≡_ {A = ℕ} 0 1 = cc (a .kind) in omega arith
 
   module _ (d : DidIn vl w e) where
-    -- a load moves nothing, or a chunk as a source
+    -- a load stays, or goes past a chunk as a source
     pub load-moved : i < 32 → t .header .kind ≡ Load
         → (e .taken i ≡ [])
         ⊎ (((i ≡ calculationOf e .first) ⊎ (i ≡ calculationOf e .second))
@@ -76,17 +93,19 @@ module _ (vl : ℕ) (t : Stream) (w : World) (e : Entry) (i : ℕ) (soFar : List
             ⊎ (((i ≡ calculationOf e .first) ⊎ (i ≡ calculationOf e .second))
             × Chunk (shapeOf (reg (w .machine) i)) (vl / reg (w .machine) i .width) (reg (w .machine) i .moved) (e .taken i))
         go (Becomes.plain p s x y) = inl x
-        go (Becomes.store p o x y) = absurd (no-store k (subst (λ n. Destination (reg (w .machine) n)) (sym p) (d .calculates .destination)) o)
+        go (Becomes.store p o t x y) = absurd (no-store k (subst (λ n. Destination (reg (w .machine) n)) (sym p) (d .calculates .destination)) o)
+        go (Becomes.past p o t z x y) = absurd (no-store k (subst (λ n. Destination (reg (w .machine) n)) (sym p) (d .calculates .destination)) o)
         go (Becomes.load n f o x y) = inr (f, x)
         go (Becomes.source n f s x y) = inl x
         go (Becomes.other n f g x y) = inl x
 
     -- what is read
     pub read : i < 32 → Read vl t w e i
+    unfolding elementsAmong
     read h = record {
       first = λ p c. source (calculationOf e .first) (c .first) p (c .gives-first);
       second = λ p c. source (calculationOf e .second) (c .second) p (c .gives-second);
-      neither = λ k f s. ap (map (fetch (reg (w .machine) i .pattern) (reg (w .machine) i .width) (w .memory))) (none k f s);
+      neither = λ k f s. ap (λ l. map (fetch (reg (w .machine) i .pattern) (reg (w .machine) i .width) (w .memory)) (heldIn (shapeOf (reg (w .machine) i)) l)) (none k f s);
     }
       where
         none : t .header .kind ≡ Load → ¬ (calculationOf e .first ≡ i) → ¬ (calculationOf e .second ≡ i) → e .taken i ≡ []
@@ -119,7 +138,8 @@ module _ (vl : ℕ) (t : Stream) (w : World) (e : Entry) (i : ℕ) (soFar : List
         go : Becomes vl (calculationOf e) w (d .out) (calculationOf e .destination) (e .taken (calculationOf e .destination)) (destinationOf (e .after) e)
             → destinationOf (e .after) e ≡ holding (streamWidth t) lane (destinationOf w e)
         go (Becomes.plain q s x y) = y ∙ ap₂ (λ n xs. holding n xs (destinationOf w e)) wide (single d)
-        go (Becomes.store q o x y) = not-open _ p o
+        go (Becomes.store q o s x y) = not-open _ p o
+        go (Becomes.past q o s z x y) = not-open _ p o
         go (Becomes.load n f o x y) = absurd (n refl)
         go (Becomes.source n f q x y) = absurd (n refl)
         go (Becomes.other n f q x y) = absurd (n refl)
@@ -127,9 +147,10 @@ module _ (vl : ℕ) (t : Stream) (w : World) (e : Entry) (i : ℕ) (soFar : List
     -- a store has it written, and has moved on
     abbrev Stored : Type 0
     Stored =
-        (e .after .memory
+        (nothingAt (shapeOf (destinationOf w e)) (destinationOf w e .moved) ≡ false)
+        × (e .after .memory
         ≡ stored (destinationOf w e .pattern) (destinationOf w e .width) (w .memory)
-        (take 1 (drop (destinationOf w e .moved) (elements (shapeOf (destinationOf w e))))) lane)
+        (take 1 (drop (destinationOf w e .moved) (stops (shapeOf (destinationOf w e))))) lane)
         × (destinationOf (e .after) e ≡ movedTo (destinationOf w e .moved + 1) (destinationOf w e))
 
     -- so it does
@@ -140,12 +161,15 @@ module _ (vl : ℕ) (t : Stream) (w : World) (e : Entry) (i : ℕ) (soFar : List
             → Stores (calculationOf e) w (d .out) (e .taken (calculationOf e .destination)) (e .after .memory) → Stored
         go b (Stores.nothing p z) = not-open _ p o
         go (Becomes.plain u p x y) (Stores.lanes v z) = not-open _ p o
-        go (Becomes.store u p x y) (Stores.lanes v z) = (
+        go (Becomes.store u p s x y) (Stores.lanes v z) = (
+          s,
           z
               ∙ ap₂ (stored (destinationOf w e .pattern) (destinationOf w e .width) (w .memory))
-              (x ∙ ap (λ l. take (length l) (drop (destinationOf w e .moved) (elements (shapeOf (destinationOf w e))))) (single d)) (single d),
+              (ap (heldIn (shapeOf (destinationOf w e))) (x ∙ ap (λ l. take (length l) (drop (destinationOf w e .moved) (stops (shapeOf (destinationOf w e))))) (single d))
+              ∙ next-held (shapeOf (destinationOf w e)) (destinationOf w e .moved) s) (single d),
           y ∙ ap (λ l. movedTo (destinationOf w e .moved + length l) (destinationOf w e)) (single d),
         )
+        go (Becomes.past u p s f x y) (Stores.lanes v z) = absurd (omega (arith, ap length (sym (single d) ∙ f)))
         go (Becomes.load n f p x y) (Stores.lanes v z) = absurd (n refl)
         go (Becomes.source n f p x y) (Stores.lanes v z) = absurd (n refl)
         go (Becomes.other n f g x y) (Stores.lanes v z) = absurd (n refl)

@@ -6,22 +6,26 @@
 use Prim.Native.Nat.{ℕ, zero, suc, _+_, _≤_, _<_}
 use mathlib.Core.Path.{_≡_, refl, sym, _∙_, ap, subst}
 use mathlib.Core.List.{List, []}
-use mathlib.Core.Bool.{true, false}
+use mathlib.Core.Bool.{Bool, true, false, cond}
 use native.Mathlib.Omega.{arith}
 use mathlib.Core.Logic.{_≢_}
 use lib.ListN.{length, getD, set, length-set}
 use lib.Seq.{getD-set-same, getD-set-other}
 use lib.IntN.{ℤ}
+use lib.Dec.{eqb}
+use borrow.Author.Tests.{ne-eqb}
 use Rattle.codec.specs.declared.amounts.Bytes.{Bytes}
+use Rattle.engine.specs.Chunks.{nothingAt}
 use Rattle.engine.specs.Registers.{isOpen}
-use Rattle.engine.specs.Places.{placeAt, inRow, stopsAt, Ready}
+use Rattle.engine.specs.Places.{placeAt, inRow, endsAt, Ready}
 use Rattle.engine.specs.Stretches.{progression, joinedIn, Part, Parts}
 use Rattle.engine.specs.Runnings.{placeOf, viewOf, Remembers, Near, behind, listedIn, rowAhead, partOf, Looks}
 use Rattle.engine.specs.Operands.{Taken}
 use Rattle.engine.specs.LayoutLaws.{at-or-other}
-use Rattle.engine.proofs.Looking.{Going, going, here-place, looked, part-added, part-within, row-long, near, inner-small}
+use Rattle.engine.proofs.Looking.{Going, going, here-place, looked, full-count, full-addressed, full-gone, size-told, part-added, part-within, row-long, near, inner-small}
 use Rattle.engine.proofs.Carrying.{taken-live}
 use Rattle.engine.specs.declared.stream.Pattern.{Pattern}
+use Rattle.engine.specs.declared.register.State.the-variants.{Open}
 use Rattle.engine.specs.declared.running.Running.{Running}
 use Rattle.engine.specs.declared.ahead.Ahead.{Ahead}
 
@@ -49,20 +53,42 @@ parts-set rows m part l h ps f = (
 
 -- the next elements of the present row
 pub taken-row : (p : Pattern) (row : List ℕ) (q : Running) → Ready (viewOf p [] row q) → placeOf row q ≡ placeAt p (q .width) (set row 0 (q .index))
-    → isOpen (q .state) ≡ true → stopsAt (p .shape .coupling) true 1 ≡ false → (n plain : ℕ) → 1 ≤ n → n ≤ 64 → q .index + n < q .size
+    → isOpen (q .state) ≡ true → endsAt (p .shape .coupling) true 1 ≡ false → (n plain : ℕ) → 1 ≤ n → n ≤ 64 → q .index + n < q .size
     → (rows : List (List ℤ)) → length rows ≡ 64 → Taken p row q n plain row (set rows 0 (partOf (q .address) (q .step) n)) (rowAhead n q)
 unfolding joinedIn
 taken-row p row q y m live through n plain some most b rows l =
     let r = viewOf p [] row q in
     let z : 0 < length row = omega (arith, row-long p row q y) in
-    let g = part-within r y n 0 row (q .index) (q .address) (q .size) (q .step) (q .height) [] (going r y n (placeOf row q) m) z n some (omega arith) b through in
+    let full : eqb (q .size) 0 ≡ false = ne-eqb (q .size) 0 (λ w. omega arith) in
+    let held : nothingAt (p .shape) (q .moved) ≡ false = sym (size-told p row q y m) ∙ full in
+    let g = part-within r y n 0 row (q .index) (q .address) (q .size) (q .step) (q .height) [] (going r y held n (placeOf row q) m) z n some (omega arith) b through in
     let e : 0 + n ≡ n = omega arith in
     let g = subst (λ j. Going r n j (inRow row (q .index + n) (rowAhead n q .address) (q .size) (q .step)) 1 (progression (q .address .0) (q .step .0) n)) e g in
     taken-live p row row q n plain _ (rowAhead n q) live refl
     (parts-set rows 0 (partOf (q .address) (q .step) n) l (omega arith) (omega arith, λ k h. absurd (omega arith)) (part-fits (q .address) (q .step) n (near p row q y m) most))
-    (looked p row q y n n _ row (behind (rowAhead n q) q) (omega (arith, g .rest)) (part-added rows 0 (partOf (q .address) (q .step) n) (omega arith) ∙ g .addressed) true
-    (inRow row (q .index + n) (rowAhead n q .address) (q .size) (q .step)) 1 (g .onward) (λ lanes. refl) (λ t. here-place r y n n _ 1 _ g))
+    (looked p row q y n n n _ row (behind (rowAhead n q) q) (full-count p row q y held n n (omega (arith, g .rest)))
+    (full-addressed p row q y held n n (omega (arith, g .rest)) _ (part-added rows 0 (partOf (q .address) (q .step) n) (omega arith) ∙ g .addressed))
+    (full-gone p row q y held n n (omega (arith, g .rest))) true
+    (inRow row (q .index + n) (rowAhead n q .address) (q .size) (q .step)) 1 (g .onward)
+    (λ lanes. ap (λ b. viewOf p lanes row (standsAt b)) full) (λ t. here-place r y n n _ 1 _ g))
     (length-set rows 0 _ ∙ l)
+  where
+    -- behind the part, where the size is 0 or not
+    standsAt : Bool → Running
+    standsAt b =
+        let o = rowAhead n q in
+        record {
+          state = Open;
+          kind = q .kind;
+          width = q .width;
+          valid = q .valid;
+          moved = q .moved + cond b 1 n;
+          height = 1;
+          index = o .index;
+          address = o .address;
+          size = q .size;
+          step = q .step;
+        }
 
 -- an open stream that stays in its row, or leaves it
 module _ (p : Pattern) (row : List ℕ) (q : Running) (n plain : ℕ) (rows : List (List ℤ)) (most : (n ≤ 64) × (length rows ≡ 64))
@@ -70,7 +96,7 @@ module _ (p : Pattern) (row : List ℕ) (q : Running) (n plain : ℕ) (rows : Li
   pub row-requires : Near (q .address) (q .step) × ((n ≤ 64) × (q .index ≤ 4096))
   row-requires = (near p row q (known .0 live) (known .1 live), (most .0, omega (arith, inner-small p row q (known .0 live))))
 
-  pub row-taken : (stopsAt (p .shape .coupling) true 1 ≡ false) × ((1 ≤ n) × (q .index + n < q .size)) → (xs : List (List ℤ)) (o : Ahead) → o ≡ rowAhead n q
+  pub row-taken : (endsAt (p .shape .coupling) true 1 ≡ false) × ((1 ≤ n) × (q .index + n < q .size)) → (xs : List (List ℤ)) (o : Ahead) → o ≡ rowAhead n q
       → xs ≡ set rows 0 (partOf (q .address) (q .step) n) → Taken p row q n plain row xs o
   row-taken h xs o e f =
       subst (Taken p row q n plain row xs) (sym e) (subst (λ l. Taken p row q n plain row l (rowAhead n q)) (sym f)

@@ -1,6 +1,6 @@
 -- What a calculation that is not refused moves of each register, and what it leaves, case by case; and memory.
 --
---   next-is, next-one              an open stream's next chunk is a chunk, and the only one
+--   next-chunk, next-one           an open stream's next chunk is a chunk, and the only one
 --   given-plain, given-open        the lanes of a source
 --   open-load, open-store, is-source   a source, a destination that is open; a register that is a source
 --   loaded                         a load that has moved on
@@ -18,13 +18,13 @@ use lib.Dec.{eqb}
 use borrow.Author.Tests.{eq-eqb, ne-eqb}
 use Rattle.codec.specs.TestLaws.{and-both, or-second}
 use Rattle.codec.specs.declared.operation.Calculation.{Calculation}
-use Rattle.engine.specs.Loops.{elements}
+use Rattle.engine.specs.Chunks.{stops, heldIn}
 use Rattle.engine.specs.Memory.{fetch, stored, contents, holding}
-use Rattle.engine.specs.Registers.{isOpen, isLoad, openLoad, openStore, shapeOf, nextChunk, movedTo, movedBy, reg}
+use Rattle.engine.specs.Registers.{isOpen, isLoad, openLoad, openStore, shapeOf, nextStops, nextChunk, movedTo, stopsFor, movedBy, reg}
 use Rattle.engine.specs.Calculate.{World, given, results, readFrom, writtenTo, memoryAfter, effect}
 use Rattle.engine.specs.Allowed.{Source, Destination}
 use Rattle.engine.specs.Good.{Good}
-use Rattle.engine.specs.ComeLaws.{lanes-some, come-open, next-front}
+use Rattle.engine.specs.ComeLaws.{lanes-some, come-open, next-front, past-chunk, past-most, past-held}
 use Rattle.engine.specs.EffectLaws.{effect-reg, read-open, read-shut, written-open, written-shut}
 use Rattle.engine.specs.OperandLaws.{stored-front}
 use Rattle.engine.specs.StreamLaws.{movedIn, store-moves, load-moves, shut-idle, unnamed-idle}
@@ -37,13 +37,13 @@ use Rattle.engine.specs.declared.register.Register.{Register}
 
 module _ (vl : ℕ) (r : Register) (l : 8 ≤ vl) (g : Good vl r) (o : r .state ≡ Open) where
   -- an open stream's next chunk is a chunk
-  pub next-is : Chunk (shapeOf r) (vl / r .width) (r .moved) (nextChunk vl r)
-  unfolding nextChunk
-  next-is = let s = g .opened (ap isOpen o) in chunk-is (shapeOf r) (s .0 .accepted) (vl / r .width) (r .moved) (lanes-some vl (r .width) l (g .width)) (s .1)
+  pub next-chunk : Chunk (shapeOf r) (vl / r .width) (r .moved) (nextStops vl r)
+  unfolding nextStops
+  next-chunk = let s = g .opened (ap isOpen o) in chunk-is (shapeOf r) (s .0 .accepted) (vl / r .width) (r .moved) (lanes-some vl (r .width) l (g .width)) (s .1)
 
   -- and the only one
-  pub next-one : (vs : List (List ℕ)) → Chunk (shapeOf r) (vl / r .width) (r .moved) vs → vs ≡ nextChunk vl r
-  unfolding nextChunk
+  pub next-one : (vs : List (List ℕ)) → Chunk (shapeOf r) (vl / r .width) (r .moved) vs → vs ≡ nextStops vl r
+  unfolding nextStops
   next-one = let s = g .opened (ap isOpen o) in chunk-one (shapeOf r) (s .0 .accepted) (vl / r .width) (r .moved) (lanes-some vl (r .width) l (g .width)) (s .1)
 
 module _ (vl : ℕ) (memory : List ℕ) (r : Register) where
@@ -58,7 +58,7 @@ module _ (vl : ℕ) (memory : List ℕ) (r : Register) where
   given-open p = let o : isOpen (r .state) ≡ true = ap isOpen p in rw o
 
 -- a register is not both
-not-both : {X : Type 0} (r : Register) → r .state ≡ Plain → r .state ≡ Open → X
+pub not-both : {X : Type 0} (r : Register) → r .state ≡ Plain → r .state ≡ Open → X
 not-both r p o = absurd (let z : _≡_ {A = ℕ} 0 1 = cc in omega arith)
 
 -- an open source is a load
@@ -76,9 +76,9 @@ pub is-source : (c : Calculation) (i : ℕ) → (i ≡ c .first) ⊎ (i ≡ c .s
 is-source c i (inl p) = rw (eq-eqb i (c .first) p)
 is-source c i (inr p) = or-second (eqb i (c .first)) (eqb i (c .second)) (eq-eqb i (c .second) p)
 
--- a load that has moved on by a chunk, which it holds
+-- a load that has moved on by the stops of a chunk, whose lanes it holds
 abbrev pub loaded : List ℕ → Register → List (List ℕ) → Register
-loaded memory r vs = movedTo (r .moved + length vs) (holding (r .width) (map (fetch (r .pattern) (r .width) memory) vs) r)
+loaded memory r vs = movedTo (r .moved + length vs) (holding (r .width) (map (fetch (r .pattern) (r .width) memory) (heldIn (shapeOf r) vs)) r)
 
 -- ---- each register: what it moves, and what it is afterwards
 
@@ -87,7 +87,7 @@ module _ (vl : ℕ) (c : Calculation) (w : World) (i : ℕ) (h : i < length (w .
   abbrev pub was : Register
   was = reg (w .machine) i
 
-  -- it moves vs, and is q afterwards
+  -- it goes past vs, and is q afterwards
   abbrev pub Went : List (List ℕ) → Register → Type 0
   Went vs q = (movedIn vl c w i ≡ vs) × (reg (effect vl c w .machine) i ≡ q)
 
@@ -105,29 +105,30 @@ module _ (vl : ℕ) (c : Calculation) (w : World) (i : ℕ) (h : i < length (w .
   went-plain p s = (shut-idle vl c w i (ap isOpen s), written p ∙ written-shut _ (results vl c w) was (ap isOpen s))
 
   -- a store
-  pub went-store : i ≡ c .destination → Destination was → was .state ≡ Open → Good vl was
+  pub went-store : i ≡ c .destination → Destination was → was .state ≡ Open → 8 ≤ vl → Good vl was
       → length (results vl c w) ≤ length (nextChunk vl was)
-      → Went (take (length (results vl c w)) (drop (was .moved) (elements (shapeOf was))))
-      (movedTo (was .moved + length (results vl c w)) was)
+      → Went (take (stopsFor was (length (results vl c w))) (drop (was .moved) (stops (shapeOf was))))
+      (movedTo (was .moved + stopsFor was (length (results vl c w))) was)
   unfolding movedBy
-  went-store p k s g m =
-      let n : ℕ = length (results vl c w) in (
+  went-store p k s l g m =
+      let n : ℕ = stopsFor was (length (results vl c w)) in (
         store-moves vl c w i (open-store was k s) (eq-eqb i (c .destination) p)
-            ∙ ap (take n) (next-front vl was g (ap isOpen s))
-            ∙ take-take n (length (nextChunk vl was)) _ m
+            ∙ ap (take n) (next-front vl was (ap isOpen s))
+            ∙ take-take n (length (nextStops vl was)) _ (past-most vl was l g (ap isOpen s) (length (results vl c w)) m)
             ∙ ap (take n) (come-open was (ap isOpen s)),
         written p ∙ written-open _ (results vl c w) was (ap isOpen s),
       )
 
   -- a load
-  pub went-load : ¬ (i ≡ c .destination) → (i ≡ c .first) ⊎ (i ≡ c .second) → Source was → was .state ≡ Open
-      → Went (nextChunk vl was) (loaded (w .memory) was (nextChunk vl was))
-  unfolding movedBy holding
-  went-load n f k s = (
+  pub went-load : ¬ (i ≡ c .destination) → (i ≡ c .first) ⊎ (i ≡ c .second) → Source was → was .state ≡ Open → 8 ≤ vl → Good vl was
+      → Went (nextStops vl was) (loaded (w .memory) was (nextStops vl was))
+  unfolding movedBy holding nextChunk
+  went-load n f k s l g = (
     load-moves vl c w i (open-load was k s) (is-source c i f),
     read n f
         ∙ read-open vl (w .memory) was (ap isOpen s)
-        ∙ ap (λ xs. movedBy (length (nextChunk vl was)) (holding (was .width) xs was)) (given-open vl (w .memory) was s),
+        ∙ ap (λ xs. movedBy (length (nextChunk vl was)) (holding (was .width) xs was)) (given-open vl (w .memory) was s)
+        ∙ ap (λ j. movedTo (was .moved + j) (holding (was .width) (map (fetch (was .pattern) (was .width) (w .memory)) (nextChunk vl was)) was)) (past-chunk vl was l g (ap isOpen s)),
   )
 
   -- a plain source
@@ -154,10 +155,13 @@ module _ (vl : ℕ) (c : Calculation) (w : World) where
   memory-kept p = let o : isOpen (target .state) ≡ false = ap isOpen p in rw o
 
   -- a store's elements that moved hold the lanes
-  pub memory-stored : Destination target → target .state ≡ Open
-      → effect vl c w .memory ≡ stored (target .pattern) (target .width) (w .memory) (movedIn vl c w (c .destination)) (results vl c w)
+  pub memory-stored : Destination target → target .state ≡ Open → 8 ≤ vl → Good vl target → length (results vl c w) ≤ length (nextChunk vl target)
+      → effect vl c w .memory
+      ≡ stored (target .pattern) (target .width) (w .memory) (heldIn (shapeOf target) (movedIn vl c w (c .destination))) (results vl c w)
   unfolding effect memoryAfter
-  memory-stored k s =
+  memory-stored k s l g m =
       let o : isOpen (target .state) ≡ true = ap isOpen s in
-      rw (o, store-moves vl c w (c .destination) (open-store target k s) (eq-eqb (c .destination) (c .destination) refl))
-      (sym (stored-front (target .pattern) (target .width) (w .memory) (nextChunk vl target) (results vl c w)))
+      let held : heldIn (shapeOf target) (movedIn vl c w (c .destination)) ≡ take (length (results vl c w)) (nextChunk vl target) =
+      ap (heldIn (shapeOf target)) (store-moves vl c w (c .destination) (open-store target k s) (eq-eqb (c .destination) (c .destination) refl))
+      ∙ past-held vl target l g o (length (results vl c w)) m in
+      rw (o, held) (sym (stored-front (target .pattern) (target .width) (w .memory) (nextChunk vl target) (results vl c w)))

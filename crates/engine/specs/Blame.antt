@@ -149,7 +149,7 @@ blamed-lane vl len n m c lane r (Blamed.destination p q f) =
     }
 
 -- a run that is refused with 14 at a place: the calculation that stands there is refused, for the lane and the operand named; and the lane's
--- element, of the stream that the sheet's operations set up, lies outside memory, at an address that the sheet and the elements moved tell
+-- element, of the stream that the sheet's operations set up, lies outside memory, at an address that the sheet and the stops gone past tell
 pub record Fell (vl : ℕ) (s memory : List ℕ) (lane : ℕ) (r : Role) (place : ℕ) : Type 0 where
   pub calculation : Calculation
   pub next : Cursor

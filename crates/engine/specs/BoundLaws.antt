@@ -5,7 +5,7 @@
 --   InBounds, passed            what a shape passes that neither low nor high refuses
 --   SizeBounded, bounded          low ≤ size ≤ high ≤ 4,096, and the exact size is not negative
 --   highs-none, highs-more, rule-none, rule-more   the highs and the rule of 8, dimension by dimension
---   highs-next, lasts-next, under-more   one dimension more
+--   highs-next, lasts-next, under-more, under-zero   one dimension more
 --   span-part                 what stands in a joined list stands in a part of it
 --   loops-under               no index of the loops passes the last one by its high
 --   element-under, at-under   nor does any index of an element
@@ -163,6 +163,12 @@ under-more s d q outer u i p =
     let last : i ≤ lastIndex high = index-last i (sizeAt s d outer) high p (size-high s d outer (lastsFrom s (suc d)) u) in
     λ k. subst (λ l. getD (i ∷ outer) k 0 ≤ getD l k 0) (sym (lasts-next s d q)) (cons-le i (lastIndex high) outer (lastsFrom s (suc d)) last u k)
 
+-- index 0
+pub under-zero : (s : Shape) (d : ℕ) → d < s .dims → (outer : List ℕ) → Under s (suc d) outer → Under s d (0 ∷ outer)
+under-zero s d q outer u =
+    let high : ℕ = highAt s d (lastsFrom s (suc d)) in
+    λ k. subst (λ l. getD (0 ∷ outer) k 0 ≤ getD l k 0) (sym (lasts-next s d q)) (cons-le 0 (lastIndex high) outer (lastsFrom s (suc d)) (omega arith) u k)
+
 -- what stands in a joined list stands in a part of it
 pub span-part : {A : Type 0} (f : ℕ → List A) (k n : ℕ) (v : A) (P : Type 0) → ((i : ℕ) → i < k + n → List·Memᴰ v (f i) → P) → List·Memᴰ v (span f k n) → P
 unfolding span
@@ -188,7 +194,7 @@ unfolding elements
 element-under s v m = loops-under s 0 (s .dims) [] (omega arith) (λ k. omega arith) v m
 
 -- what stands at a place of a list is in it
-getD-part : {A : Type 0} (l : List A) (k : ℕ) (z : A) → k < length l → List·Memᴰ (getD l k z) l
+pub getD-part : {A : Type 0} (l : List A) (k : ℕ) (z : A) → k < length l → List·Memᴰ (getD l k z) l
 getD-part [] k z h = absurd (omega arith)
 getD-part (x ∷ l) zero z h = List·Memᴰ·head refl
 getD-part (x ∷ l) (suc k) z h = List·Memᴰ·tail (getD-part l k z (omega arith))

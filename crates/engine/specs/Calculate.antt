@@ -101,7 +101,8 @@ refusalOf vl c w = firstOf (onNamed (checksOn (c .task)) vl c w)
 unfoldable pub readFrom : ℕ → List ℕ → Register → Register
 readFrom vl memory r = cond (isOpen (r .state)) (movedBy (length (nextChunk vl r)) (holding (r .width) (given vl memory r) r)) r
 
--- a destination after it: "A plain destination takes the lanes and width, zeros behind. A store stream .. moves on by n"
+-- a destination after it: "A plain destination takes the lanes and width, zeros behind. A store stream .. moves on by n"; 02, 3/14: "at an
+-- empty pass moves past it when 0 lanes are written"
 unfoldable pub writtenTo : ℕ → List ℕ → Register → Register
 writtenTo width xs r = cond (isOpen (r .state)) (movedBy (length xs) r) (holding width xs r)
 

@@ -16,11 +16,12 @@ use lib.Seq.{getD-take, getD-drop}
 use Rattle.codec.specs.declared.header.Coupling.{Coupling}
 use Rattle.codec.specs.declared.header.Coupling.the-variants.{Uncoupled, Coupled}
 use Rattle.engine.specs.Configure.{Covers}
-use Rattle.engine.specs.Loops.{sizeAt, elements}
-use Rattle.engine.specs.Chunks.{groups, streamGroups, chunk}
-use Rattle.engine.specs.FlagLaws.{differ-drop, loops-even}
+use Rattle.engine.specs.Loops.{sizeAt}
+use Rattle.engine.specs.Chunks.{stopsIn, stops, groups, streamGroups, chunk}
+use Rattle.engine.specs.FlagLaws.{differ-drop, differNext}
+use Rattle.engine.specs.StopLaws.{stop-even}
 use Rattle.engine.specs.GroupLaws.{leftInGroup, left-most, left-step}
-use Rattle.engine.specs.ChunkLaws.{covered, groups-join, chunk-length, chunk-lanes, chunk-some, chunk-elements}
+use Rattle.engine.specs.ChunkLaws.{covered, groups-join, chunk-length, chunk-lanes, chunk-some, chunk-stops}
 use Rattle.engine.specs.PassLaws.{same-group, group-uncoupled}
 use Rattle.engine.specs.Good.{Accepted}
 use Rattle.engine.specs.Histories.{PassEnds, Chunk}
@@ -28,15 +29,15 @@ use Rattle.engine.specs.declared.stream.Shape.{Shape}
 
 -- ---- one at most
 
--- the elements of a chunk by their places
-pub chunk-at : (s : Shape) (n : ℕ) (vs : List (List ℕ)) → vs ≡ take (length vs) (drop n (elements s)) → (k : ℕ) → k < length vs
-    → getD vs k [] ≡ getD (elements s) (n + k) []
-chunk-at s n vs e k h = ap (λ l. getD l k []) e ∙ getD-take (length vs) (drop n (elements s)) k [] h ∙ getD-drop n (elements s) k []
+-- the stops of a chunk by their places
+pub chunk-at : (s : Shape) (n : ℕ) (vs : List (List ℕ)) → vs ≡ take (length vs) (drop n (stops s)) → (k : ℕ) → k < length vs
+    → getD vs k [] ≡ getD (stops s) (n + k) []
+chunk-at s n vs e k h = ap (λ l. getD l k []) e ∙ getD-take (length vs) (drop n (stops s)) k [] h ∙ getD-drop n (stops s) k []
 
 module _ (s : Shape) (lanes n : ℕ) where
   -- a chunk does not pass the end of the stream
-  within : (vs : List (List ℕ)) → Chunk s lanes n vs → length vs ≤ length (elements s) - n
-  within vs c = omega (arith, ap length (c .front) ∙ length-take (length vs) (drop n (elements s)), length-drop n (elements s))
+  within : (vs : List (List ℕ)) → Chunk s lanes n vs → length vs ≤ length (stops s) - n
+  within vs c = omega (arith, ap length (c .front) ∙ length-take (length vs) (drop n (stops s)), length-drop n (stops s))
 
   -- no chunk is shorter than another: it would end inside the stream and inside a pass
   shorter : (vs ws : List (List ℕ)) → Chunk s lanes n vs → Chunk s lanes n ws → length vs < length ws → ⊥
@@ -46,15 +47,15 @@ module _ (s : Shape) (lanes n : ℕ) where
       k : ℕ
       k = length vs - 1
 
-      before : (p : PassEnds s (n + length vs)) → drop (p .dimension) (getD ws k []) ≡ drop (p .dimension) (getD (elements s) (n + length vs - 1) [])
+      before : (p : PassEnds s (n + length vs)) → drop (p .dimension) (getD ws k []) ≡ drop (p .dimension) (getD (stops s) (n + length vs - 1) [])
       before p =
           let e : n + k ≡ n + length vs - 1 = omega (arith, c .some) in
-          ap (drop (p .dimension)) (chunk-at s n ws (d .front) k (omega arith) ∙ ap (λ j. getD (elements s) j []) e)
+          ap (drop (p .dimension)) (chunk-at s n ws (d .front) k (omega arith) ∙ ap (λ j. getD (stops s) j []) e)
 
-      at : (p : PassEnds s (n + length vs)) → drop (p .dimension) (getD ws (suc k) []) ≡ drop (p .dimension) (getD (elements s) (n + length vs) [])
+      at : (p : PassEnds s (n + length vs)) → drop (p .dimension) (getD ws (suc k) []) ≡ drop (p .dimension) (getD (stops s) (n + length vs) [])
       at p =
           let e : n + suc k ≡ n + length vs = omega (arith, c .some) in
-          ap (drop (p .dimension)) (chunk-at s n ws (d .front) (suc k) (omega (arith, c .some)) ∙ ap (λ j. getD (elements s) j []) e)
+          ap (drop (p .dimension)) (chunk-at s n ws (d .front) (suc k) (omega (arith, c .some)) ∙ ap (λ j. getD (stops s) j []) e)
 
       inside : (p : PassEnds s (n + length vs)) → drop (p .dimension) (getD ws k []) ≡ drop (p .dimension) (getD ws (suc k) [])
       inside p = d .one-pass (p .dimension) (p .coupled) k (omega (arith, c .some))
@@ -68,7 +69,7 @@ module _ (s : Shape) (lanes n : ℕ) where
       go (no p) (yes h) = absurd (shorter ws vs d c h)
       go (no p) (no q) =
           let e : length vs ≡ length ws = omega arith in
-          c .front ∙ ap (λ k. take k (drop n (elements s))) e ∙ sym (d .front)
+          c .front ∙ ap (λ k. take k (drop n (stops s))) e ∙ sym (d .front)
 
 -- ---- the engine's
 
@@ -86,72 +87,70 @@ module _ (s : Shape) (a : Accepted s) where
   cover = covered s (s .coupling) (a .covered)
 
   -- a group ends where the stream does, or before
-  left-in : (n : ℕ) → n ≤ length (elements s) → n + leftInGroup (streamGroups s) n ≤ length (elements s)
-  unfolding elements
-  left-in n h = omega (arith, left-most (streamGroups s) n, ap length (groups-join (sizeAt s) (s .dims) (s .coupling) cover))
+  left-in : (n : ℕ) → n ≤ length (stops s) → n + leftInGroup (streamGroups s) n ≤ length (stops s)
+  left-in n h = omega (arith, left-most (streamGroups s) n, ap length (groups-join (sizeAt s) (s .dims) (s .coupling)))
 
-  -- coupled to dimension c: the next element differs in no index above it exactly if it is of the same group
-  same-pass : (c : ℕ) → s .coupling ≡ Coupled c → (n : ℕ) → suc n < length (elements s)
-      → (drop c (getD (elements s) n []) ≡ drop c (getD (elements s) (suc n) [])) ↔ (1 < leftInGroup (streamGroups s) n)
-  unfolding elements
+  -- coupled to dimension c: the next stop differs in no index above it exactly if it is of the same group
+  same-pass : (c : ℕ) → s .coupling ≡ Coupled c → (n : ℕ) → suc n < length (stops s)
+      → (drop c (getD (stops s) n []) ≡ drop c (getD (stops s) (suc n) [])) ↔ (1 < leftInGroup (streamGroups s) n)
   same-pass c e n h =
-      let d = differ-drop c _ _ (loops-even (sizeAt s) 0 (s .dims) [] n (suc n) (omega arith) h) in
-      let g = same-group (sizeAt s) (s .dims) c (subst (Covers (s .dims)) e cover) n h in
-      subst
-      (λ k. (drop c (getD (elements s) n []) ≡ drop c (getD (elements s) (suc n) [])) ↔ (1 < leftInGroup (groups (sizeAt s) (s .dims) k) n)) (sym e)
-      (λ q. g .0 (d .1 q), λ q. d .0 (g .1 q))
+      let d = differ-drop c _ _ (stop-even s cover n (suc n) (omega arith) h) in
+      let g = same-group (sizeAt s) (s .dims) c (subst (Covers (s .dims)) e cover) n (subst (λ k. suc n < length (stopsIn (sizeAt s) (s .dims) k)) e h) in
+      let f : (differNext (stops s) n ≤ c) ↔ (1 < leftInGroup (streamGroups s) n) =
+      subst (λ k. (differNext (stopsIn (sizeAt s) (s .dims) k) n ≤ c) ↔ (1 < leftInGroup (groups (sizeAt s) (s .dims) k) n)) (sym e) g in
+      (λ q. f .0 (d .1 q), λ q. d .0 (f .1 q))
 
   -- where a group ends before the stream does, a pass ends
-  pass-ends : (n : ℕ) → 1 ≤ n → n < length (elements s) → leftInGroup (streamGroups s) (n - 1) ≡ 1 → PassEnds s n
-  unfolding elements
+  pass-ends : (n : ℕ) → 1 ≤ n → n < length (stops s) → leftInGroup (streamGroups s) (n - 1) ≡ 1 → PassEnds s n
+  unfolding stopsIn
   pass-ends n p h e = go (s .coupling) refl
     where
       go : (k : Coupling) → s .coupling ≡ k → PassEnds s n
       go Uncoupled f =
+          let l : n < length (stopsIn (sizeAt s) (s .dims) Uncoupled) = subst (λ k. n < length (stopsIn (sizeAt s) (s .dims) k)) f h in
           absurd (omega (arith, ap (λ k. leftInGroup (groups (sizeAt s) (s .dims) k) (n - 1)) f, group-uncoupled (sizeAt s) (s .dims) (n - 1)))
       go (Coupled c) f =
           let j : n ≡ suc (n - 1) = omega arith in
           record {
             dimension = c;
             coupled = f;
-            other = λ q. omega (arith, same-pass c f (n - 1) (omega arith) .0 (q ∙ ap (λ i. drop c (getD (elements s) i [])) j));
+            other = λ q. omega (arith, same-pass c f (n - 1) (omega arith) .0 (q ∙ ap (λ i. drop c (getD (stops s) i [])) j));
           }
 
-  module _ (lanes n : ℕ) (p : 1 ≤ lanes) (h : n < length (elements s)) where
+  module _ (lanes n : ℕ) (p : 1 ≤ lanes) (h : n < length (stops s)) where
     -- its length: the lanes, or what is left of the group if that is less
     size : length (chunk s lanes n) ≡ min lanes (leftInGroup (streamGroups s) n)
     size = chunk-length (streamGroups s) lanes n
 
-    -- it has an element
+    -- it has a stop
     some : 1 ≤ length (chunk s lanes n)
-    unfolding elements
-    some = chunk-some (streamGroups s) lanes n p (omega (arith, ap length (groups-join (sizeAt s) (s .dims) (s .coupling) cover)))
+    some = chunk-some (streamGroups s) lanes n p (omega (arith, ap length (groups-join (sizeAt s) (s .dims) (s .coupling))))
 
-    -- if coupled, its elements are of one pass
+    -- if coupled, its stops are of one pass
     one-pass : (c : ℕ) → s .coupling ≡ Coupled c → (k : ℕ) → suc k < length (chunk s lanes n)
         → drop c (getD (chunk s lanes n) k []) ≡ drop c (getD (chunk s lanes n) (suc k) [])
     one-pass c e k q =
-        let f = chunk-at s n (chunk s lanes n) (chunk-elements s lanes n cover) in
+        let f = chunk-at s n (chunk s lanes n) (chunk-stops s lanes n) in
         let j : n + suc k ≡ suc (n + k) = omega arith in
         ap (drop c) (f k (omega arith))
         ∙ same-pass c e (n + k) (omega (arith, size, left-in n (omega arith))) .1 (omega (arith, size, left-by (streamGroups s) n k (omega (arith, size))))
-        ∙ ap (drop c) (sym (f (suc k) q ∙ ap (λ i. getD (elements s) i []) j))
+        ∙ ap (drop c) (sym (f (suc k) q ∙ ap (λ i. getD (stops s) i []) j))
 
     -- it is shorter than the lanes only at the end of the stream or of a pass
     full : length (chunk s lanes n) < lanes
-        → (n + length (chunk s lanes n) ≡ length (elements s)) ⊎ PassEnds s (n + length (chunk s lanes n))
+        → (n + length (chunk s lanes n) ≡ length (stops s)) ⊎ PassEnds s (n + length (chunk s lanes n))
     full q =
         let e : length (chunk s lanes n) ≡ leftInGroup (streamGroups s) n = omega (arith, size) in
         let k : ℕ = length (chunk s lanes n) - 1 in
         let j : n + length (chunk s lanes n) - 1 ≡ n + k = omega (arith, some) in
         let l : leftInGroup (streamGroups s) (n + k) ≡ 1 = omega (arith, some, left-by (streamGroups s) n k (omega (arith, some))) in
         ⊎-map (λ r. r) (λ r. pass-ends _ (omega (arith, some)) r (ap (leftInGroup (streamGroups s)) j ∙ l))
-        (eq-or-lt-of-le (subst (λ i. n + i ≤ length (elements s)) (sym e) (left-in n (omega arith))))
+        (eq-or-lt-of-le (subst (λ i. n + i ≤ length (stops s)) (sym e) (left-in n (omega arith))))
 
     -- the engine's chunk is one
     pub chunk-is : Chunk s lanes n (chunk s lanes n)
     chunk-is = record {
-      front = chunk-elements s lanes n cover;
+      front = chunk-stops s lanes n;
       some = some;
       most = chunk-lanes (streamGroups s) lanes n;
       one-pass = one-pass;

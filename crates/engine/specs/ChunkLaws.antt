@@ -1,14 +1,14 @@
--- Chunks take the elements in order, each once.
+-- Chunks take the stops in order, each once.
 --
---   passes-join, groups-join  the passes, and the groups, joined are the elements
+--   passes-join, groups-join  the passes joined are the elements, the groups joined the stops
 --   covered                   a coupled dimension is one of the dimensions
 --   chunkOf-front             the next chunk is the front of what is left
 --   chunk-length, chunk-lanes, chunk-most   its length: the lanes, or what is left of the group if that is less; at most the lanes; at most what is left
---   chunk-some                it is not empty where an element is left
+--   chunk-some                it is not empty where a stop is left
 --   take-of-chunk             the front of a chunk is the chunk of fewer lanes
 --   chunksFrom, chunks-front  the chunks taken one after the other; joined they are the front of what is left
---   EachOnce, each-once       from the first on they are the elements, each once
---   chunk-elements            the next chunk of a stream is the front of its elements that are left
+--   EachOnce, each-once       from the first on they are the members, each once
+--   chunk-stops               the next chunk of a stream is the front of its stops that are left
 use Prim.Native.Nat.{ℕ, zero, suc, _+_, _-_, _≤_, _<_, min}
 use mathlib.Core.Path.{_≡_, refl, sym, _∙_, ap}
 use mathlib.Core.List.{List, [], _∷_, _++_, map, append-nil, map-append}
@@ -22,9 +22,9 @@ use lib.Seq.{take-take, take-add, take-length, take-all, drop-drop}
 use borrow.Author.Tests.{ltb-false}
 use Rattle.codec.specs.declared.header.Coupling.{Coupling}
 use Rattle.codec.specs.declared.header.Coupling.the-variants.{Uncoupled, Coupled}
-use Rattle.engine.specs.Loops.{sizeAt, span, loops, elements}
-use Rattle.engine.specs.Chunks.{passes, groups, leftAfter, nextGroup, chunkOf, chunk}
-use Rattle.engine.specs.GroupLaws.{join, join-append, join-withElements, leftAfter-join, leftInGroup, left-some, left-most, nextGroup-front}
+use Rattle.engine.specs.Loops.{sizeAt, join, span, loops}
+use Rattle.engine.specs.Chunks.{passes, stopsIn, stops, groups, leftAfter, nextGroup, chunkOf, chunk}
+use Rattle.engine.specs.GroupLaws.{join-append, join-withElements, leftAfter-join, leftInGroup, left-some, left-most, nextGroup-front}
 use Rattle.engine.specs.Configure.{uncovered, Covers}
 use Rattle.engine.specs.declared.stream.Shape.{Shape}
 
@@ -58,11 +58,11 @@ pub covered : (s : Shape) (k : Coupling) → uncovered s k ≡ false → Covers 
 covered s Uncoupled e = tt
 covered s (Coupled c) e = ltb-false (s .dims) c e
 
--- the groups joined are the elements
-pub groups-join : (size : ℕ → List ℕ → ℕ) (D : ℕ) (k : Coupling) → Covers D k → join (groups size D k) ≡ loops size 0 D []
-unfolding groups join
-groups-join size D Uncoupled h = join-withElements _ ∙ append-nil (loops size 0 D [])
-groups-join size D (Coupled c) h = join-withElements _ ∙ passes-join size c D h
+-- the groups joined are the stops
+pub groups-join : (size : ℕ → List ℕ → ℕ) (D : ℕ) (k : Coupling) → join (groups size D k) ≡ stopsIn size D k
+unfolding groups join stopsIn
+groups-join size D Uncoupled = join-withElements _ ∙ append-nil (loops size 0 D [])
+groups-join size D (Coupled c) = join-withElements _
 
 module _ {A : Type 0} where
   -- no more can be taken than there are
@@ -100,7 +100,7 @@ module _ {A : Type 0} where
   pub chunk-most : (gs : List (List A)) (lanes n : ℕ) → length (chunkOf gs lanes n) ≤ length (join gs) - n
   chunk-most gs lanes n = omega (arith, chunk-length gs lanes n, left-most gs n)
 
-  -- not empty where an element is left
+  -- not empty where a stop is left
   pub chunk-some : (gs : List (List A)) (lanes n : ℕ) → 0 < lanes → n < length (join gs) → 0 < length (chunkOf gs lanes n)
   chunk-some gs lanes n p h = omega (arith, chunk-length gs lanes n, left-some gs n h)
 
@@ -133,7 +133,7 @@ module _ {A : Type 0} where
           ∙ ap (λ l. l ++ take (length r) (drop (n + length c) (join gs))) (sym e)
           ∙ ap (λ l. c ++ l) (sym f))
 
-  -- k elements in chunks: they are the first k, and the rest is left; the rest is empty exactly if k is the number of all; while it is
+  -- k members in chunks: they are the first k, and the rest is left; the rest is empty exactly if k is the number of all; while it is
   -- not, the next chunk is not
   pub record EachOnce (gs : List (List A)) (cs : List (List A)) (k : ℕ) : Type 0 where
     pub count : length (join cs) ≡ k
@@ -144,7 +144,7 @@ module _ {A : Type 0} where
     pub ended : (join (leftAfter k gs) ≡ []) ↔ (k ≡ length (join gs))
     pub more : (lanes : ℕ) → 0 < lanes → k < length (join gs) → 0 < length (chunkOf gs lanes k)
 
-  -- the chunks taken one after the other are the elements from the first on, each once
+  -- the chunks taken one after the other are the members from the first on, each once
   pub each-once : (gs : List (List A)) (ls : List ℕ) → EachOnce gs (chunksFrom gs 0 ls) (length (join (chunksFrom gs 0 ls)))
   each-once gs ls = record {
     count = refl;
@@ -169,7 +169,6 @@ module _ {A : Type 0} where
       nothing [] h = refl
       nothing (x ∷ l) h = absurd (omega arith)
 
--- the next chunk of a stream is the front of its elements that are left
-pub chunk-elements : (s : Shape) (lanes n : ℕ) → Covers (s .dims) (s .coupling) → chunk s lanes n ≡ take (length (chunk s lanes n)) (drop n (elements s))
-unfolding elements
-chunk-elements s lanes n h = chunkOf-front _ lanes n ∙ ap (λ l. take (length (chunk s lanes n)) (drop n l)) (groups-join (sizeAt s) (s .dims) (s .coupling) h)
+-- the next chunk of a stream is the front of its stops that are left
+pub chunk-stops : (s : Shape) (lanes n : ℕ) → chunk s lanes n ≡ take (length (chunk s lanes n)) (drop n (stops s))
+chunk-stops s lanes n = chunkOf-front _ lanes n ∙ ap (λ l. take (length (chunk s lanes n)) (drop n l)) (groups-join (sizeAt s) (s .dims) (s .coupling))

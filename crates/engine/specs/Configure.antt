@@ -22,7 +22,7 @@ use Rattle.codec.specs.declared.operation.Operation.the-variants as op
 use Rattle.codec.specs.declared.refusal.Refusal.the-variants.{WrongState, TooMany, Misplaced, LowHigh, Product}
 use Rattle.engine.specs.Rules.{lowOrHigh, highsOf, product}
 use Rattle.engine.specs.Checks.{Check, _if_, firstOf}
-use Rattle.engine.specs.Registers.{isConfiguring, isOpen, shapeOf, noPattern, noShape, fresh, movedBy, reg, put}
+use Rattle.engine.specs.Registers.{isConfiguring, isOpen, shapeOf, noPattern, noShape, fresh, movedTo, reg, put}
 use Rattle.engine.specs.declared.stream.Modifier.{Modifier}
 use Rattle.engine.specs.declared.stream.Shape.{Shape}
 use Rattle.engine.specs.declared.stream.Pattern.{Pattern}
@@ -145,9 +145,10 @@ modified m p = record {
   strides = p .strides;
 }
 
--- "End opens it, or finishes it at once if it has no elements": nothing has moved
+-- "End opens it, or finishes it at once if it has no elements"; 02, 3/14: a coupled stream "is finished at end only if there is" no coupled
+-- pass: nothing has moved
 abbrev pub ended : Register → Register
-ended r = movedBy 0 r
+ended r = movedTo 0 r
 
 -- the register that an operation names
 abbrev pub registerOf : Operation → ℕ

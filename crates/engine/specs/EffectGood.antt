@@ -15,11 +15,11 @@ use Rattle.codec.specs.declared.operation.Task.{Task}
 use Rattle.codec.specs.declared.operation.Task.the-variants.{Each, All}
 use Rattle.codec.specs.declared.operation.Calculation.{Calculation}
 use Rattle.engine.specs.Memory.{joined, packed, holding}
-use Rattle.engine.specs.Registers.{isOpen, nextChunk, movedBy, reg}
+use Rattle.engine.specs.Registers.{isOpen, nextChunk, stopsFor, movedBy, reg}
 use Rattle.engine.specs.Calculate.{World, given, results, refusalOf, readFrom, writtenTo, effect}
 use Rattle.engine.specs.Good.{IsWidth, Standing, Good, AllGood}
 use Rattle.engine.specs.GoodLaws.{moved-good}
-use Rattle.engine.specs.ComeLaws.{next-within}
+use Rattle.engine.specs.ComeLaws.{next-within, past-chunk, past-most}
 use Rattle.engine.specs.CalculationLaws.{Named}
 use Rattle.engine.specs.EffectLaws.{effect-reg, effect-length, read-open, read-shut, written-open, written-shut, given-fits, results-length, room}
 use Rattle.engine.specs.Lanes.{outcomeCount}
@@ -49,9 +49,9 @@ holding-good vl width xs r g i h = record {
     stands s = record { accepted = s .accepted; index = s .index; height = s .height }
 
 -- a good register is so after it was read
-pub read-good : (vl : ℕ) (memory : List ℕ) (r : Register) → Good vl r → Good vl (readFrom vl memory r)
+pub read-good : (vl : ℕ) (memory : List ℕ) (r : Register) → 8 ≤ vl → Good vl r → Good vl (readFrom vl memory r)
 unfolding movedBy holding
-read-good vl memory r g = go (isOpen (r .state)) refl
+read-good vl memory r l g = go (isOpen (r .state)) refl
   where
     go : (b : Bool) → isOpen (r .state) ≡ b → Good vl (readFrom vl memory r)
     go true e =
@@ -59,20 +59,20 @@ read-good vl memory r g = go (isOpen (r .state)) refl
         (moved-good vl (holding (r .width) (given vl memory r) r)
         (holding-good vl (r .width) (given vl memory r) r g (g .width) (given-fits vl memory r g))
         (g .opened e .0 .accepted)
-        (r .moved + length (nextChunk vl r))
-        (next-within vl r g e))
+        (r .moved + stopsFor r (length (nextChunk vl r)))
+        (omega (arith, past-chunk vl r l g e, next-within vl r g e)))
     go false e = subst (Good vl) (sym (read-shut vl memory r e)) g
 
 -- a good register is so after it was written
-pub written-good : (vl width : ℕ) (xs : List ℕ) (r : Register) → Good vl r → IsWidth width → length xs * width ≤ vl
+pub written-good : (vl width : ℕ) (xs : List ℕ) (r : Register) → 8 ≤ vl → Good vl r → IsWidth width → length xs * width ≤ vl
     → (isOpen (r .state) ≡ true → length xs ≤ length (nextChunk vl r)) → Good vl (writtenTo width xs r)
 unfolding movedBy
-written-good vl width xs r g i h k = go (isOpen (r .state)) refl
+written-good vl width xs r l g i h k = go (isOpen (r .state)) refl
   where
     go : (b : Bool) → isOpen (r .state) ≡ b → Good vl (writtenTo width xs r)
     go true e =
         subst (Good vl) (sym (written-open width xs r e))
-        (moved-good vl r g (g .opened e .0 .accepted) (r .moved + length xs) (omega (arith, k e, next-within vl r g e)))
+        (moved-good vl r g (g .opened e .0 .accepted) (r .moved + stopsFor r (length xs)) (omega (arith, past-most vl r l g e (length xs) (k e), next-within vl r g e)))
     go false e = subst (Good vl) (sym (written-shut width xs r e)) (holding-good vl width xs r g i h)
 
 -- the lanes that the destination takes fit the vector length, if those of a source do
@@ -95,8 +95,8 @@ effect-good vl c w l g nm e = record { all = effect-length vl c w ∙ g .all; go
             → Good vl (cond d (writtenTo (a .width) (results vl c w) (reg (w .machine) i)) (cond s (readFrom vl (w .memory) (reg (w .machine) i)) (reg (w .machine) i)))
         go true p s =
             let f : Good vl a = g .good (c .first) (nm .first) in
-            written-good vl (a .width) (results vl c w) (reg (w .machine) i) (g .good i h) (f .width)
+            written-good vl (a .width) (results vl c w) (reg (w .machine) i) l (g .good i h) (f .width)
             (subst (λ n. n * a .width ≤ vl) (sym (results-length vl c w e)) (outcome-fits (c .task) vl _ (a .width) l (f .width) (given-fits vl (w .memory) a f)))
             (subst (λ j. isOpen (reg (w .machine) j .state) ≡ true → length (results vl c w) ≤ length (nextChunk vl (reg (w .machine) j))) (sym (eqb-true _ _ p)) (room vl c w e))
-        go false p true = read-good vl (w .memory) (reg (w .machine) i) (g .good i h)
+        go false p true = read-good vl (w .memory) (reg (w .machine) i) l (g .good i h)
         go false p false = g .good i h

@@ -2,8 +2,8 @@
 --
 --   Running, running-begun, running-on what holds of a run before each pass
 --   repeat-shut, repeat-open           one turn of a run
---   pass-fewer                         a pass that is done leaves fewer elements to come of the loop register's stream
---   finishes                           as many passes as there are elements to come are enough: done, the stream is finished
+--   pass-fewer                         a pass that is done leaves fewer stops to come of the loop register's stream
+--   finishes                           as many passes as there are stops to come are enough: done, the stream is finished
 --   enough                             more passes change nothing
 --   onward, onward-shut, onward-open, onward-refused, onward-pass   a run from here to its end; it stays the same after one more pass
 --   execute-ended, execute-open, execute-finishes, execute-good   a whole run: its equations without a bound
@@ -80,7 +80,7 @@ module _ (vl loop : ℕ) (body : List Placed) where
         verdict = e;
       }
 
-  -- and leaves fewer elements to come of the loop register's stream
+  -- and leaves fewer stops to come of the loop register's stream
   pub pass-fewer : (g : Progress) → Running vl loop body g → isOpen (reg (g .world .machine) loop .state) ≡ true → pass vl body g .verdict ≡ Done
       → length (toCome (reg (pass vl body g .world .machine) loop)) < length (toCome (reg (g .world .machine) loop))
   pass-fewer g r o e =
@@ -92,7 +92,7 @@ module _ (vl loop : ℕ) (body : List Placed) where
   none-open : (g : Progress) → Running vl loop body g → length (toCome (reg (g .world .machine) loop)) ≤ 0 → isOpen (reg (g .world .machine) loop .state) ≡ false
   none-open g r h = none-shut vl (reg (g .world .machine) loop) (r .good .good loop (r .below)) h
 
-  -- as many passes as there are elements to come are enough: if no calculation is refused, the stream is finished
+  -- as many passes as there are stops to come are enough: if no calculation is refused, the stream is finished
   pub finishes : (n : ℕ) (g : Progress) → Running vl loop body g → length (toCome (reg (g .world .machine) loop)) ≤ n
       → repeat vl loop body n g .verdict ≡ Done → isFinished (reg (repeat vl loop body n g .world .machine) loop .state) ≡ true
   unfolding repeatBy
@@ -112,7 +112,7 @@ module _ (vl loop : ℕ) (body : List Placed) where
       go true o (Refused x at) e v ih = not-both x at (q .verdict) v e
       go true o Done e v ih = ih (running-on g r e) (omega (arith, pass-fewer g r o e)) v
 
-  -- more passes than there are elements to come change nothing
+  -- more passes than there are stops to come change nothing
   pub enough : (n m : ℕ) (g : Progress) → Running vl loop body g → length (toCome (reg (g .world .machine) loop)) ≤ n
       → length (toCome (reg (g .world .machine) loop)) ≤ m → repeat vl loop body n g ≡ repeat vl loop body m g
   unfolding repeatBy

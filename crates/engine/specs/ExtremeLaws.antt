@@ -18,8 +18,8 @@ use lib.Signed.{_≤ℤ_, _<ℤ_, ltZ-no, ltZ-yes}
 use Rattle.codec.specs.declared.operation.Action.{Action}
 use Rattle.codec.specs.declared.operation.Action.the-variants.{Smaller, Larger}
 use Rattle.codec.specs.declared.operation.Fold.the-variants.{Smallest, Largest}
+use Rattle.engine.specs.Loops.{join}
 use Rattle.engine.specs.Members.{Each, Member}
-use Rattle.engine.specs.GroupLaws.{join}
 use Rattle.engine.specs.Lanes.{raised, lane, extreme, folded}
 use Rattle.engine.specs.SignedLaws.{twos, raised-order}
 use Rattle.engine.specs.FoldLaws.{Narrow, extreme-small}

@@ -19,8 +19,8 @@ use borrow.Author.Tests.{eqb-true, eqb-false, ne-eqb}
 use Rattle.codec.specs.TestLaws.{never}
 use Rattle.codec.specs.declared.operation.Action.the-variants.{Larger}
 use Rattle.codec.specs.declared.operation.Fold.the-variants.{Largest, FirstLargest}
+use Rattle.engine.specs.Loops.{join}
 use Rattle.engine.specs.Members.{Each, Member}
-use Rattle.engine.specs.GroupLaws.{join}
 use Rattle.engine.specs.Lanes.{raised, lane, extreme, firstAt, folded}
 use Rattle.engine.specs.SignedLaws.{twos}
 use Rattle.engine.specs.FoldLaws.{Narrow, extreme-small}

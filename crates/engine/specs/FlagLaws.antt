@@ -1,15 +1,15 @@
--- Two elements' highest difference, and when a flag is set.
+-- Two stops' highest difference, and when a flag is set.
 --
 --   differ-drop               it is at most i exactly if the indices above dimension i are the same
 --   differ-flag               it is above i exactly if they are not
---   differ-none               there is none exactly if they are the same element
+--   differ-none               there is none exactly if they are the same
 --   differ-length             it is at most their length
 --   loops-even                the elements of loops are equally long
---   differNext, loops-differ  the highest difference between an element and the next; there is one
---   height-end, height-between   the height when no element is left, and between two elements
---   flag-set                  a flag is set exactly if no element is left or the next one differs in an index above
---   flag-clear                the flags are clear before any element moved, if one is to come
---   flag-all                  all are set when no element is left
+--   differNext, loops-differ  the highest difference between one and the next; there is one
+--   height-end, height-between   the height when no stop is left, and between two stops
+--   flag-set                  a flag is set exactly if no stop is left or the next one differs in an index above
+--   flag-clear                the flags are clear before any stop, if one is to come
+--   flag-all                  all are set when no stop is left
 --   flag-below                a flag that is set has all below it set
 --   height-high               the height is at most one above the dimensions
 use Prim.Native.Nat.{ℕ, zero, suc, _+_, _-_, _≤_, _<_}
@@ -24,9 +24,11 @@ use lib.ListN.{length, getD, drop, replicate}
 use lib.Seq.{getD-drop}
 use lib.Dec.{eqb}
 use borrow.Author.Tests.{ltb-true, lt-ltb, le-ltb, le-leb, lt-leb, eqb-true, eq-eqb, ne-eqb}
-use Rattle.engine.specs.Loops.{sizeAt, loops, elements}
+use Rattle.engine.specs.Configure.{Covers}
+use Rattle.engine.specs.Loops.{loops}
 use Rattle.engine.specs.LoopLaws.{Before, loops-length, loops-order, before-not-self}
-use Rattle.engine.specs.Chunks.{orAbove, differ, height, flag}
+use Rattle.engine.specs.Chunks.{stops, orAbove, differ, height, flag}
+use Rattle.engine.specs.StopLaws.{stop-length, stop-even}
 use Rattle.engine.specs.declared.stream.Shape.{Shape}
 
 -- one place more
@@ -49,7 +51,7 @@ here-none : (b : Bool) → cond b 0 1 ≤ 0 → b ≡ true
 here-none true e = refl
 here-none false e = absurd (omega arith)
 
--- an element differs from itself nowhere
+-- a stop differs from itself nowhere
 pub differ-self : (u : List ℕ) → differ u u ≡ 0
 unfolding differ
 differ-self [] = refl
@@ -67,7 +69,7 @@ same (i ∷ u) (j ∷ v) e h =
     let g : u ≡ v = same u v (omega arith) q in
     cc
 
--- there is no difference exactly if they are the same element
+-- there is no difference exactly if they are the same
 pub differ-none : (u v : List ℕ) → length u ≡ length v → (differ u v ≡ 0) ↔ (u ≡ v)
 differ-none u v e = (λ h. same u v e (omega arith), λ h. rw (← h) (differ-self u))
 
@@ -111,7 +113,7 @@ before-differ u v e b = go (decLe 1 (differ u v))
     go (yes p) = p
     go (no p) = absurd (before-not-self v (subst (λ w. Before w v) (same u v e (omega arith)) b))
 
--- the highest difference between an element and the next
+-- the highest difference between one and the next
 abbrev pub differNext : List (List ℕ) → ℕ → ℕ
 differNext es n = differ (getD es n []) (getD es (suc n) [])
 
@@ -122,53 +124,53 @@ loops-differ size d n outer j h =
     before-differ _ _ (loops-even size d n outer j (suc j) (omega arith) h) (loops-order size d n outer j (suc j) (omega arith) h)
 
 module _ (s : Shape) (n : ℕ) where
-  -- the height when no element is left
-  pub height-end : length (elements s) ≤ n → height s n ≡ suc (s .dims)
+  -- the height when no stop is left
+  pub height-end : length (stops s) ≤ n → height s n ≡ suc (s .dims)
   unfolding height
-  height-end h = rw (le-leb (length (elements s)) n h)
+  height-end h = rw (le-leb (length (stops s)) n h)
 
-  -- the height between two elements
-  pub height-between : 0 < n → n < length (elements s) → height s n ≡ differ (getD (elements s) (n - 1) []) (getD (elements s) n [])
+  -- the height between two stops
+  pub height-between : 0 < n → n < length (stops s) → height s n ≡ differ (getD (stops s) (n - 1) []) (getD (stops s) n [])
   unfolding height
-  height-between p h = rw (lt-leb (length (elements s)) n h, ne-eqb n 0 (omega arith))
+  height-between p h = rw (lt-leb (length (stops s)) n h, ne-eqb n 0 (omega arith))
 
-  -- all flags are set when no element is left
-  pub flag-all : (i : ℕ) → length (elements s) ≤ n → i ≤ s .dims → flag (height s n) i ≡ true
+  -- all flags are set when no stop is left
+  pub flag-all : (i : ℕ) → length (stops s) ≤ n → i ≤ s .dims → flag (height s n) i ≡ true
   flag-all i h p = rw (height-end h) (lt-ltb i (suc (s .dims)) (omega arith))
 
-  -- "set exactly if the last element moved is the last of its pass of dimension i: the next element, if any, differs in an index above i"
-  pub flag-set : (i : ℕ) → 0 < n → n ≤ length (elements s) → i ≤ s .dims
-      → (flag (height s n) i ≡ true) ↔ ((n ≡ length (elements s)) ⊎ (¬ (drop i (getD (elements s) (n - 1) []) ≡ drop i (getD (elements s) n []))))
-  unfolding elements
-  flag-set i p h q = go (eq-or-lt-of-le h)
+  -- "set exactly if the last element moved is the last of its pass of dimension i: the next element, if any, differs in an index above i", with
+  -- stops for elements; of a coupled stream in 02's words: PassFlags
+  pub flag-set : Covers (s .dims) (s .coupling) → (i : ℕ) → 0 < n → n ≤ length (stops s) → i ≤ s .dims
+      → (flag (height s n) i ≡ true) ↔ ((n ≡ length (stops s)) ⊎ (¬ (drop i (getD (stops s) (n - 1) []) ≡ drop i (getD (stops s) n []))))
+  flag-set c i p h q = go (eq-or-lt-of-le h)
     where
-      go : (n ≡ length (elements s)) ⊎ (n < length (elements s))
-          → (flag (height s n) i ≡ true) ↔ ((n ≡ length (elements s)) ⊎ (¬ (drop i (getD (elements s) (n - 1) []) ≡ drop i (getD (elements s) n []))))
+      go : (n ≡ length (stops s)) ⊎ (n < length (stops s))
+          → (flag (height s n) i ≡ true) ↔ ((n ≡ length (stops s)) ⊎ (¬ (drop i (getD (stops s) (n - 1) []) ≡ drop i (getD (stops s) n []))))
       go (inl e) = (λ f. inl e, λ f. flag-all i (omega arith) q)
       go (inr l) =
-          let r = differ-flag i (getD (elements s) (n - 1) []) (getD (elements s) n []) (loops-even (sizeAt s) 0 (s .dims) [] (n - 1) n (omega arith) l) in
+          let r = differ-flag i (getD (stops s) (n - 1) []) (getD (stops s) n []) (stop-even s c (n - 1) n (omega arith) l) in
           rw (height-between p l) (λ f. inr (r .0 f), ⊎-elim (λ e. absurd (omega arith)) (r .1))
 
   -- the height is at most one above the dimensions
-  pub height-high : height s n ≤ suc (s .dims)
-  unfolding height elements
-  height-high = go (decLe (length (elements s)) n) (decLe n 0)
+  pub height-high : Covers (s .dims) (s .coupling) → height s n ≤ suc (s .dims)
+  unfolding height
+  height-high c = go (decLe (length (stops s)) n) (decLe n 0)
     where
-      go : Dec (length (elements s) ≤ n) → Dec (n ≤ 0) → height s n ≤ suc (s .dims)
+      go : Dec (length (stops s) ≤ n) → Dec (n ≤ 0) → height s n ≤ suc (s .dims)
       go (yes h) q = omega (arith, height-end h)
-      go (no h) (yes q) = rw (lt-leb (length (elements s)) n (omega arith), eq-eqb n 0 (omega arith)) (omega arith)
+      go (no h) (yes q) = rw (lt-leb (length (stops s)) n (omega arith), eq-eqb n 0 (omega arith)) (omega arith)
       go (no h) (no q) =
           omega (
             arith,
             height-between (omega arith) (omega arith),
-            differ-length (getD (elements s) (n - 1) []) (getD (elements s) n []),
-            loops-length (sizeAt s) 0 (s .dims) [] (n - 1) (omega arith),
+            differ-length (getD (stops s) (n - 1) []) (getD (stops s) n []),
+            stop-length s c (n - 1) (omega arith),
           )
 
 -- "Before any element moves, the flags of an open stream are clear"
-pub flag-clear : (s : Shape) (i : ℕ) → 0 < length (elements s) → flag (height s 0) i ≡ false
+pub flag-clear : (s : Shape) (i : ℕ) → 0 < length (stops s) → flag (height s 0) i ≡ false
 unfolding height
-flag-clear s i h = rw (lt-leb (length (elements s)) 0 h) (le-ltb i 0 (omega arith))
+flag-clear s i h = rw (lt-leb (length (stops s)) 0 h) (le-ltb i 0 (omega arith))
 
 -- a flag that is set has all below it set
 pub flag-below : (h i j : ℕ) → j ≤ i → flag h i ≡ true → flag h j ≡ true

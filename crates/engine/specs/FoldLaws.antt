@@ -25,7 +25,7 @@ use Rattle.codec.specs.declared.operation.Fold.{Fold}
 use Rattle.codec.specs.declared.operation.Fold.the-variants.{Sum, Smallest, Largest, FirstLargest}
 use Rattle.codec.specs.declared.operation.Task.{Task}
 use Rattle.codec.specs.declared.operation.Task.the-variants.{Each, All}
-use Rattle.engine.specs.GroupLaws.{join}
+use Rattle.engine.specs.Loops.{join}
 use Rattle.engine.specs.Lanes.{lane, lanewise, sum, extreme, firstAt, folded, outcome}
 use Rattle.engine.specs.LaneLaws.{lane-small}
 

@@ -3,6 +3,7 @@
 --   Stream, patternOf       what was given for a stream; its pattern
 --   Given, givenBy, givenFor   what the operations of a sheet have given for a register
 --   Flagged                 when a flag is set
+--   stopsOf, elementsIn     its stops; the elements among some of them
 --   AtMoment                a stream at a moment: what has moved, what is to come, what both questions are told
 use Prim.Native.Nat.{ℕ, _-_, _≤_}
 use mathlib.Core.Path.{_≡_}
@@ -19,6 +20,7 @@ use Rattle.codec.specs.declared.operation.Modifier as given
 use Rattle.codec.specs.declared.operation.Operation.{Operation}
 use Rattle.codec.specs.declared.operation.Operation.the-variants as op
 use Rattle.engine.specs.Loops.{elements}
+use Rattle.engine.specs.Chunks.{stops, heldIn}
 use Rattle.engine.specs.Addresses.{noBytes, noElements}
 use Rattle.engine.specs.Registers.{noModifier, reg}
 use Rattle.engine.specs.Questions.{askFlag, askEnd}
@@ -117,27 +119,38 @@ givenFor i os = givenFrom i none os
 -- ---- a moment
 
 -- "the flag of dimension i is set exactly if the last element moved is the last of its pass of dimension i: the next element, if any,
--- differs in an index above i", after n elements of the list moved; dimension i counted from 1
+-- differs in an index above i", after n stops of the list; dimension i counted from 1. Of a coupled stream the next stop may be a pass that
+-- holds no element: 02, 3/14, in its own words, is `pass-told`, `inside-told` (PassFlags)
 pub data Flagged (vs : List (List ℕ)) (n i : ℕ) : Type 0 where
   last : n ≡ length vs → Flagged vs n i
   differs : 1 ≤ n → ¬ (drop i (getD vs (n - 1) []) ≡ drop i (getD vs n [])) → Flagged vs n i
 
--- the stream t in register i of a machine, when the elements `moved` have moved
-pub record AtMoment (t : Stream) (moved : List (List ℕ)) (m : Machine) (i : ℕ) : Type 0 where
+-- where a stream stops: at each element, and in each coupled pass that has none
+abbrev pub stopsOf : Stream → List (List ℕ)
+stopsOf t = stops (patternOf t .shape)
+
+-- the elements among stops of a stream
+abbrev pub elementsIn : Stream → List (List ℕ) → List (List ℕ)
+elementsIn t vs = heldIn (patternOf t .shape) vs
+
+-- the stream t in register i of a machine, when it has gone past the stops `past`
+pub record AtMoment (t : Stream) (past : List (List ℕ)) (m : Machine) (i : ℕ) : Type 0 where
   -- it is that stream still
   pub pattern : reg m i .pattern ≡ patternOf t
   pub kind : reg m i .kind ≡ t .header .kind
   pub width : reg m i .width ≡ bytesOf (t .header .width)
-  -- those that have moved, followed by those to come, are the loop's elements
+  -- those that it has gone past, followed by those to come, are its stops
   pub toCome : List (List ℕ)
-  pub each-once : moved ++ toCome ≡ elements (patternOf t .shape)
-  -- "After its last element a stream is finished"
+  pub each-stop : past ++ toCome ≡ stopsOf t
+  -- the elements that have moved, followed by those to come, are the loop's elements
+  pub each-once : elementsIn t past ++ elementsIn t toCome ≡ elements (patternOf t .shape)
+  -- "After its last element a stream is finished"; 02, 3/14: a coupled one "after its last coupled pass"
   pub going-on : ¬ (toCome ≡ []) → reg m i .state ≡ Open
   pub finished : toCome ≡ [] → reg m i .state ≡ Finished
   -- both questions
-  pub end-yes : (askEnd m i ≡ Yes) ↔ (moved ≡ elements (patternOf t .shape))
-  pub end-no : (askEnd m i ≡ No) ↔ (¬ (moved ≡ elements (patternOf t .shape)))
+  pub end-yes : (askEnd m i ≡ Yes) ↔ (past ≡ stopsOf t)
+  pub end-no : (askEnd m i ≡ No) ↔ (¬ (past ≡ stopsOf t))
   pub flag-yes : (d : ℕ) → 1 ≤ d → d ≤ length (t .dimensions)
-      → (askFlag m i d ≡ Yes) ↔ Flagged (elements (patternOf t .shape)) (length moved) d
+      → (askFlag m i d ≡ Yes) ↔ Flagged (stopsOf t) (length past) d
   pub flag-no : (d : ℕ) → 1 ≤ d → d ≤ length (t .dimensions)
-      → (askFlag m i d ≡ No) ↔ (¬ Flagged (elements (patternOf t .shape)) (length moved) d)
+      → (askFlag m i d ≡ No) ↔ (¬ Flagged (stopsOf t) (length past) d)

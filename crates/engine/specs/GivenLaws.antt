@@ -1,6 +1,6 @@
 -- What the operations of a sheet gave for a register is what the register has.
 --
---   Bears, elementsOf, InRegister   a register with a stream's descriptors; its elements; a stream, some of whose elements have moved
+--   Bears, InRegister   a register with a stream's descriptors; a stream that has gone past some of its stops
 --   Has, fresh-has              a register has what was given; a fresh one, nothing
 --   filled-more, plusDimension, dimensioned-given, plusModifier, modified-given   one dimension, one modifier more
 --   own-has, other-given, after-has   after an operation: its own register; every other; any
@@ -20,14 +20,13 @@ use Rattle.codec.specs.declared.operation.Dimension.{Dimension}
 use Rattle.codec.specs.declared.operation.Modifier as given
 use Rattle.codec.specs.declared.operation.Operation.{Operation}
 use Rattle.codec.specs.declared.operation.Operation.the-variants as op
-use Rattle.engine.specs.Loops.{elements}
 use Rattle.engine.specs.Chunks.{height}
 use Rattle.engine.specs.Addresses.{noBytes, noElements}
-use Rattle.engine.specs.Registers.{noModifier, fresh, noRegister, shapeOf, stateAfter, movedBy, freshMachine, reg}
-use Rattle.engine.specs.Configure.{patterned, dimensioned, owned, modified, registerOf, applied}
+use Rattle.engine.specs.Registers.{noModifier, fresh, noRegister, shapeOf, stateAfter, movedTo, freshMachine, reg}
+use Rattle.engine.specs.Configure.{Covers, patterned, dimensioned, owned, modified, registerOf, applied}
 use Rattle.engine.specs.GoodLaws.{put-same, put-other}
 use Rattle.engine.specs.Allowed.{Accepts}
-use Rattle.engine.specs.Given.{Stream, filled, patternOf, Given, none, going, ended, withDimension, withModifier, withEnd, givenBy, givenFrom, givenFor}
+use Rattle.engine.specs.Given.{Stream, stopsOf, filled, patternOf, Given, none, going, ended, withDimension, withModifier, withEnd, givenBy, givenFrom, givenFor}
 use Rattle.engine.specs.Promise1.{after, Turns, DoneBefore}
 use Rattle.engine.specs.declared.stream.Modifier.{Modifier}
 use Rattle.engine.specs.declared.stream.Pattern.{Pattern}
@@ -43,17 +42,14 @@ pub record Bears (t : Stream) (r : Register) : Type 0 where
   pub width : r .width ≡ bytesOf (t .header .width)
   pub most : length (t .dimensions) ≤ 7
 
--- the elements of a stream
-abbrev pub elementsOf : Stream → List (List ℕ)
-elementsOf t = elements (patternOf t .shape)
-
--- the stream t in a register, when the elements soFar have moved
+-- the stream t in a register, when it has gone past the stops soFar
 pub record InRegister (t : Stream) (soFar : List (List ℕ)) (r : Register) : Type 0 where
   pub bears : Bears t r
   pub moved : r .moved ≡ length soFar
-  pub each-once : soFar ++ drop (length soFar) (elementsOf t) ≡ elementsOf t
+  pub each-once : soFar ++ drop (length soFar) (stopsOf t) ≡ stopsOf t
   pub state : r .state ≡ stateAfter (patternOf t .shape) (length soFar)
   pub height : r .height ≡ height (patternOf t .shape) (length soFar)
+  pub covers : Covers (patternOf t .shape .dims) (patternOf t .shape .coupling)
 
 -- a register has what was given: no stream; one that is being configured; one that is ended, of which nothing has moved
 abbrev pub Has : Given → Register → Type 0
@@ -145,7 +141,7 @@ while-going : (g : Given) (r : Register) (P : Given → Type 0) → r .state ≡
     → ((t : Stream) → Bears t r → r .moved ≡ 0 → P (going t)) → P g
 while-going none r P c h f = plain-not (r .state) h c
 while-going (going t) r P c h f = f t (h .0) (h .2)
-while-going (ended t) r P c h f = ended-not (leb (length (elementsOf t)) 0) (r .state) (h .state) c
+while-going (ended t) r P c h f = ended-not (leb (length (stopsOf t)) 0) (r .state) (h .state) c
 
 -- after a dimension
 dimension-has : (d : Dimension) (t : Stream) (r : Register) → Bears t r → shapeOf r .dims < 7 → Bears (plusDimension d t) (patterned (dimensioned d (r .pattern)) r)
@@ -166,17 +162,16 @@ modifier-has m t r b h =
     record { pattern = ap (modified m) (b .pattern) ∙ modified-given m t n; kind = b .kind; width = b .width; most = b .most }
 
 -- after end: nothing has moved
-end-has : (t : Stream) (r : Register) → Bears t r → r .moved ≡ 0 → InRegister t [] (movedBy 0 r)
-unfolding movedBy
-end-has t r b e =
+end-has : (t : Stream) (r : Register) → Bears t r → Covers (shapeOf r .dims) (shapeOf r .coupling) → InRegister t [] (movedTo 0 r)
+end-has t r b k =
     let p : r .pattern ≡ patternOf t = b .pattern in
-    let z : r .moved + 0 ≡ 0 = omega arith in
     record {
       bears = record { pattern = p; kind = b .kind; width = b .width; most = b .most };
-      moved = z;
+      moved = refl;
       each-once = refl;
-      state = λ j. stateAfter (p j .shape) (z j);
-      height = λ j. height (p j .shape) (z j);
+      state = λ j. stateAfter (p j .shape) 0;
+      height = λ j. height (p j .shape) 0;
+      covers = subst (λ (q : Pattern). Covers (q .shape .dims) (q .shape .coupling)) p k;
     }
 
 -- an operation's own register has what it gives
@@ -192,7 +187,7 @@ own-has (op.Modifier m) g r a k =
     (while-going g r (λ y. Has (withModifier m y) (applied (op.Modifier m) r)) (a .configuring) k
     (λ t b e. (modifier-has m t r b (a .room), a .configuring, e)))
 own-has (op.End i) g r a k =
-    rw (eq-eqb i i refl) (while-going g r (λ y. Has (withEnd y) (applied (op.End i) r)) (a .configuring) k (λ t b e. end-has t r b e))
+    rw (eq-eqb i i refl) (while-going g r (λ y. Has (withEnd y) (applied (op.End i) r)) (a .configuring) k (λ t b e. end-has t r b (a .covers)))
 own-has (op.Run i n) g r a k = absurd a
 
 -- for every other register it gives nothing

@@ -10,8 +10,8 @@ use mathlib.Core.List.{[]}
 use mathlib.Core.Bool.{true, false}
 use lib.ListN.{length, getD}
 use lib.IntN.{natAbs}
-use Rattle.engine.specs.Loops.{elements}
-use Rattle.engine.specs.Chunks.{height}
+use Rattle.codec.specs.Headers.{couplingInRange}
+use Rattle.engine.specs.Chunks.{stops, height}
 use Rattle.engine.specs.Rules.{lowOrHigh, highsOf, product}
 use Rattle.engine.specs.Addresses.{noBytes, noElements}
 use Rattle.engine.specs.Registers.{isConfiguring, isOpen, isFinished, noModifier, shapeOf, indexOf}
@@ -40,6 +40,7 @@ pub record Ranged (s : Shape) : Type 0 where
 -- a pattern's arrays and their ranges
 pub record RangedPattern (p : Pattern) : Type 0 where
   pub shape : Ranged (p .shape)
+  pub coupled : couplingInRange (p .shape .coupling) ≡ true
   pub base : natAbs (p .base .0) ≤ 1048576
   pub offsets : length (p .offsets) ≡ 7
   pub strides : length (p .strides) ≡ 7
@@ -49,6 +50,7 @@ pub record RangedPattern (p : Pattern) : Type 0 where
 -- a shape that end accepts
 pub record Accepted (s : Shape) : Type 0 where
   pub ranged : Ranged s
+  pub coupled : couplingInRange (s .coupling) ≡ true
   pub some : 1 ≤ s .dims
   pub covered : uncovered s (s .coupling) ≡ false
   pub bounded : lowOrHigh s ≡ false
@@ -61,7 +63,7 @@ IsWidth w = (code : ℕ) × (code ≤ 3) × (w ≡ 2 ^ code)
 -- a stream that has been ended: where it stands
 pub record Standing (r : Register) : Type 0 where
   pub accepted : Accepted (shapeOf r)
-  pub index : r .index ≡ indexOf (getD (elements (shapeOf r)) (r .moved) [])
+  pub index : r .index ≡ indexOf (getD (stops (shapeOf r)) (r .moved) [])
   pub height : r .height ≡ height (shapeOf r) (r .moved)
 
 -- what holds of a register: its lanes fit, its descriptors are in range, its stream stands where its state says
@@ -72,8 +74,8 @@ pub record Good (vl : ℕ) (r : Register) : Type 0 where
   pub pattern : RangedPattern (r .pattern)
   pub indices : length (r .index) ≡ 7
   pub unmoved : isConfiguring (r .state) ≡ true → r .moved ≡ 0
-  pub opened : isOpen (r .state) ≡ true → Standing r × (r .moved < length (elements (shapeOf r)))
-  pub finished : isFinished (r .state) ≡ true → Standing r × (r .moved ≡ length (elements (shapeOf r)))
+  pub opened : isOpen (r .state) ≡ true → Standing r × (r .moved < length (stops (shapeOf r)))
+  pub finished : isFinished (r .state) ≡ true → Standing r × (r .moved ≡ length (stops (shapeOf r)))
 
 -- every register is good
 pub record AllGood (vl : ℕ) (m : Machine) : Type 0 where

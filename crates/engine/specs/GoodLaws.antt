@@ -3,7 +3,7 @@
 --   next, more, passed, clear          a list of checks that gives none
 --   all-same, fresh-good, fresh-machine-good   what a sheet starts with
 --   after-configuring                  an ended stream is not being configured
---   dimension-passed, modifier-passed, end-accepted, end-configuring, target-most   what an operation that is not refused finds
+--   dimension-passed, modifier-passed, end-accepted, target-most   what an operation that is not refused finds
 --   opened-good, dimensioned-good, modified-good, moved-good, ended-good, applied-good
 --                                      a good register after an operation
 --   in-machine, put-same, put-other, put-good   a register put back
@@ -25,7 +25,7 @@ use borrow.Author.Tests.{leb-true, leb-false, ltb-true, ltb-false, eqb-false, no
 use Rattle.codec.specs.TestLaws.{never, both, or-false}
 use Rattle.codec.specs.HeaderLaws.{header-range}
 use Rattle.codec.specs.RangeLaws.{dimension-range, modifier-range, run-range, open-range}
-use Rattle.codec.specs.Headers.{bytesOf}
+use Rattle.codec.specs.Headers.{bytesOf, couplingInRange}
 use Rattle.codec.specs.Operations.{isBase, dimensionInRange, modifierInRange, operationInRange}
 use Rattle.codec.specs.declared.amounts.Bytes.{Bytes}
 use Rattle.codec.specs.declared.header.Header.{Header}
@@ -38,12 +38,11 @@ use Rattle.codec.specs.declared.operation.Modifier as given
 use Rattle.codec.specs.declared.operation.Operation.{Operation}
 use Rattle.codec.specs.declared.operation.Operation.the-variants as op
 use Rattle.codec.specs.declared.refusal.Refusal.{Refusal}
-use Rattle.engine.specs.Loops.{elements}
-use Rattle.engine.specs.Chunks.{height}
+use Rattle.engine.specs.Chunks.{stops, height}
 use Rattle.engine.specs.Rules.{highsOf, product}
 use Rattle.engine.specs.Addresses.{noBytes, noElements}
 use Rattle.engine.specs.Checks.{Check, _if_, firstOf}
-use Rattle.engine.specs.Registers.{isConfiguring, isOpen, isFinished, noModifier, noShape, noPattern, fresh, noRegister, shapeOf, movedTo, movedBy, freshMachine, reg, put}
+use Rattle.engine.specs.Registers.{isConfiguring, isOpen, isFinished, noModifier, noShape, noPattern, fresh, noRegister, shapeOf, movedTo, freshMachine, reg, put}
 use Rattle.engine.specs.Configure.{dimensionChecks, modifierChecks, uncovered, endChecks, opened, patterned, dimensioned, owned, modified, ended, registerOf, checksFor, applied, unlessBecause, whyNot, configured}
 use Rattle.engine.specs.Good.{RangedModifier, Ranged, RangedPattern, Accepted, IsWidth, Standing, Good, AllGood}
 use Rattle.engine.specs.IndexLaws.{index-length}
@@ -103,15 +102,16 @@ bare-shape coupling = record {
 }
 
 -- a pattern with no descriptors yet and a base in range is in range
-bare : (coupling : Coupling) (base : Bytes) → natAbs (base .0) ≤ 1048576
+bare : (coupling : Coupling) (base : Bytes) → couplingInRange coupling ≡ true → natAbs (base .0) ≤ 1048576
     → RangedPattern (record {
       shape = record { dims = 0; sizes = noShape .sizes; mods = 0; modifiers = noShape .modifiers; coupling = coupling };
       base = base;
       offsets = noPattern .offsets;
       strides = noPattern .strides;
     })
-bare coupling base h = record {
+bare coupling base c h = record {
   shape = bare-shape coupling;
+  coupled = c;
   base = h;
   offsets = refl;
   strides = refl;
@@ -125,7 +125,7 @@ fresh-good vl = record {
   width = (0, omega arith, refl);
   lanes = refl;
   valid = omega arith;
-  pattern = bare Uncoupled noBytes (omega arith);
+  pattern = bare Uncoupled noBytes refl (omega arith);
   indices = refl;
   unmoved = λ e. refl;
   opened = λ e. never e;
@@ -152,7 +152,7 @@ opened-good vl h b e = record {
   width = is-width (h .width);
   lanes = refl;
   valid = omega arith;
-  pattern = bare (h .coupling) b (leb-true (natAbs (b .0)) 1048576 (both (nonNeg (b .0)) (isBase (natAbs (b .0))) (open-range h b e .1) .1));
+  pattern = bare (h .coupling) b (header-range h (open-range h b e .0) .1) (leb-true (natAbs (b .0)) 1048576 (both (nonNeg (b .0)) (isBase (natAbs (b .0))) (open-range h b e .1) .1));
   indices = refl;
   unmoved = λ e. refl;
   opened = λ e. never e;
@@ -204,6 +204,7 @@ dimensioned-ranged d p h e q =
         size = λ j. set-each (λ x. x ≤ 4096) (p .shape .sizes) (p .shape .dims) j (d .size) 0 (r .2) (h .shape .size j);
         modifier = λ k t. wider (p .shape .dims) (getD (p .shape .modifiers) k noModifier) (h .shape .modifier k t);
       };
+      coupled = h .coupled;
       base = h .base;
       offsets = length-set (p .offsets) (p .shape .dims) (d .offset) ∙ h .offsets;
       strides = length-set (p .strides) (p .shape .dims) (d .stride) ∙ h .strides;
@@ -253,6 +254,7 @@ modified-ranged m p h e q t = record {
     size = h .shape .size;
     modifier = one-more (p .shape .mods) (p .shape .dims) (p .shape .modifiers) (owned m (p .shape)) (omega (arith, h .shape .modifiers)) (owned-ranged m (p .shape) e t) (h .shape .modifier);
   };
+  coupled = h .coupled;
   base = h .base;
   offsets = h .offsets;
   strides = h .strides;
@@ -287,35 +289,35 @@ pub after-configuring : (b : Bool) → isConfiguring (cond b Finished Open) ≡ 
 after-configuring true = refl
 after-configuring false = refl
 
--- an ended stream is open only if not all its elements have moved
+-- an ended stream is open only if it has not gone past all its stops
 after-open : (b : Bool) → isOpen (cond b Finished Open) ≡ true → b ≡ false
 after-open true e = sym e
 after-open false e = refl
 
--- an ended stream is finished only if all its elements have moved
+-- an ended stream is finished only if it has gone past all its stops
 after-finished : (b : Bool) → isFinished (cond b Finished Open) ≡ true → b ≡ true
 after-finished true e = refl
 after-finished false e = e
 
--- after n elements in all
-pub moved-good : (vl : ℕ) (r : Register) → Good vl r → Accepted (shapeOf r) → (n : ℕ) → n ≤ length (elements (shapeOf r)) → Good vl (movedTo n r)
+-- after n stops in all
+pub moved-good : (vl : ℕ) (r : Register) → Good vl r → Accepted (shapeOf r) → (n : ℕ) → n ≤ length (stops (shapeOf r)) → Good vl (movedTo n r)
 moved-good vl r g a n h =
-    let all : ℕ = length (elements (shapeOf r)) in
+    let all : ℕ = length (stops (shapeOf r)) in
     let stands : Standing (movedTo n r) = record { accepted = a; index = refl; height = refl } in
     record {
       width = g .width;
       lanes = g .lanes;
       valid = g .valid;
       pattern = g .pattern;
-      indices = index-length (getD (elements (shapeOf r)) n []);
+      indices = index-length (getD (stops (shapeOf r)) n []);
       unmoved = λ e. never (sym (after-configuring (leb all n)) ∙ e);
       opened = λ e. (stands, leb-false all n (after-open (leb all n) e));
       finished = λ e. let q : all ≤ n = leb-true all n (after-finished (leb all n) e) in (stands, omega arith);
     }
 
 -- a shape that end does not refuse
-pub end-accepted : (r : Register) → Ranged (shapeOf r) → firstOf (endChecks r) ≡ Nothing → Accepted (shapeOf r)
-end-accepted r h w =
+pub end-accepted : (r : Register) → Ranged (shapeOf r) → couplingInRange (shapeOf r .coupling) ≡ true → firstOf (endChecks r) ≡ Nothing → Accepted (shapeOf r)
+end-accepted r h k w =
     let s : Shape = shapeOf r in
     let a = next _ _ _ w in
     let b = next _ _ _ (a .1) in
@@ -324,6 +326,7 @@ end-accepted r h w =
     let n = or-false (eqb (s .dims) 0) (uncovered s (s .coupling)) (b .0) in
     record {
       ranged = h;
+      coupled = k;
       some = some (s .dims) (eqb-false (s .dims) 0 (n .0));
       covered = n .1;
       bounded = c .0;
@@ -334,16 +337,9 @@ end-accepted r h w =
     some zero f = absurd (f refl)
     some (suc n) f = omega arith
 
--- a register that end does not refuse is being configured
-pub end-configuring : (r : Register) → firstOf (endChecks r) ≡ Nothing → isConfiguring (r .state) ≡ true
-end-configuring r w = not-false (isConfiguring (r .state)) (next _ _ _ w .0)
-
 -- after end that is not refused
 pub ended-good : (vl : ℕ) (r : Register) → Good vl r → firstOf (endChecks r) ≡ Nothing → Good vl (ended r)
-unfolding movedBy
-ended-good vl r g w =
-    let z : r .moved ≡ 0 = g .unmoved (end-configuring r w) in
-    moved-good vl r g (end-accepted r (g .pattern .shape) w) (r .moved + 0) (omega arith)
+ended-good vl r g w = moved-good vl r g (end-accepted r (g .pattern .shape) (g .pattern .coupled) w) 0 (omega arith)
 
 -- after any operation that is not refused
 pub applied-good : (vl : ℕ) (o : Operation) (r : Register) → Good vl r → operationInRange o ≡ true → firstOf (checksFor o r) ≡ Nothing → Good vl (applied o r)

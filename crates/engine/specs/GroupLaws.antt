@@ -1,6 +1,6 @@
 -- Groups of any elements: what is left of them after some, position by position.
 --
---   join, join-none, join-next, join-append   lists joined: none, one and others, in two parts
+--   join-none, join-next, join-append   lists joined: none, one and others, in two parts
 --   join-withElements         empty groups add nothing
 --   leftAfter-join            what is left of groups, joined, is what is left of their elements
 --   leftInGroup               how many elements are left of the group that a position stands in
@@ -20,12 +20,8 @@ use lib.ListN.{length, getD, take, drop, length-append, length-take, length-drop
 use lib.Seq.{drop-append-le, drop-append-add, drop-nil, take-append-seam}
 use borrow.Author.Tests.{lt-ltb, le-ltb}
 use Rattle.engine.specs.Members.{Each, Member, Ordered, getD-past, each-append}
+use Rattle.engine.specs.Loops.{join}
 use Rattle.engine.specs.Chunks.{withElements, leftAfter, nextGroup}
-
--- lists joined
-unfoldable pub join : {A : Type 0} → List (List A) → List A
-join [] = []
-join (g ∷ gs) = g ++ join gs
 
 -- none
 pub join-none : {A : Type 0} → join {A = A} [] ≡ []

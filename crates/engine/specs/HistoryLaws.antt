@@ -1,11 +1,11 @@
 -- Any list of calculations done one after the other, none refused.
 --
 --   AllNamed, Completed                each names registers; each is not refused in the world that those before it left
---   afterAll, movedOver                the world after them; the elements of a register that they moved, joined
+--   afterAll, movedOver                the world after them; the stops of a register that they went past, joined
 --   completed-append, after-append     of two lists, one after the other
 --   after-length, after-good           the registers stay 32 and good
---   each-once                          the elements moved, then those to come, are those to come at the start
---   pattern-kept, kind-kept, width-kept, stream-kept, moved-all   what a stream keeps, and how many elements it has moved
+--   each-once                          the stops gone past, then those to come, are those to come at the start
+--   pattern-kept, kind-kept, width-kept, stream-kept, moved-all   what a stream keeps, and how many stops it has gone past
 --   moves, fewer                       if they name an open load, they have moved it; so fewer of it are to come
 --   times, named-append, named-times, named-take   a body several times
 use Prim.Native.Nat.{ℕ, zero, suc, _+_, _≤_, _<_}
@@ -43,7 +43,7 @@ unfoldable pub afterAll : ℕ → World → List Placed → World
 afterAll vl w [] = w
 afterAll vl w (c ∷ cs) = afterAll vl (effect vl (c .calculation) w) cs
 
--- the elements of register i that they moved, joined
+-- the stops of register i that they went past, joined
 unfoldable pub movedOver : ℕ → World → List Placed → ℕ → List (List ℕ)
 movedOver vl w [] i = []
 movedOver vl w (c ∷ cs) i = movedIn vl (c .calculation) w i ++ movedOver vl (effect vl (c .calculation) w) cs i
@@ -73,7 +73,7 @@ after-good vl [] w l nm g k = g
 after-good vl (c ∷ cs) w l nm g k =
     after-good vl cs (effect vl (c .calculation) w) l (nm .1) (effect-good vl (c .calculation) w l g (nm .0) (k .0)) (k .1)
 
--- the elements of a register that the calculations moved, joined, then those to come, are those that were to come
+-- the stops of a register that the calculations went past, joined, then those to come, are those that were to come
 pub each-once : (vl : ℕ) (cs : List Placed) (w : World) (i : ℕ) → 8 ≤ vl → i < 32 → AllNamed cs → AllGood vl (w .machine) → Completed vl w cs
     → movedOver vl w cs i ++ toCome (reg (afterAll vl w cs .machine) i) ≡ toCome (reg (w .machine) i)
 unfolding movedOver afterAll Completed AllNamed
@@ -82,21 +82,21 @@ each-once vl (c ∷ cs) w i l h nm g k =
     let v : World = effect vl (c .calculation) w in
     append-assoc (movedIn vl (c .calculation) w i) (movedOver vl v cs i) (toCome (reg (afterAll vl v cs .machine) i))
     ∙ ap (λ vs. movedIn vl (c .calculation) w i ++ vs) (each-once vl cs v i l h (nm .1) (effect-good vl (c .calculation) w l g (nm .0) (k .0)) (k .1))
-    ∙ once vl (c .calculation) w i (omega (arith, g .all)) (k .0) (g .good i h)
+    ∙ once vl (c .calculation) w i (omega (arith, g .all)) (k .0) l (g .good i h)
 
 -- what is a register before a calculation is one after it
 next-length : (vl : ℕ) (c : Placed) (w : World) (i : ℕ) → i < length (w .machine .registers) → i < length (effect vl (c .calculation) w .machine .registers)
 next-length vl c w i h = subst (λ n. i < n) (sym (effect-length vl (c .calculation) w)) h
 
--- how many elements have moved
-pub moved-all : (vl : ℕ) (cs : List Placed) (w : World) (i : ℕ) → i < length (w .machine .registers) → Completed vl w cs
+-- how many stops it has gone past
+pub moved-all : (vl : ℕ) (cs : List Placed) (w : World) (i : ℕ) → 8 ≤ vl → i < 32 → AllNamed cs → AllGood vl (w .machine) → Completed vl w cs
     → reg (afterAll vl w cs .machine) i .moved ≡ reg (w .machine) i .moved + length (movedOver vl w cs i)
-unfolding movedOver afterAll Completed
-moved-all vl [] w i h k = omega arith
-moved-all vl (c ∷ cs) w i h k =
+unfolding movedOver afterAll Completed AllNamed
+moved-all vl [] w i l h nm g k = omega arith
+moved-all vl (c ∷ cs) w i l h nm g k =
     let v : World = effect vl (c .calculation) w in
     omega
-    (arith, moved-all vl cs v i (next-length vl c w i h) (k .1), moved-counts vl (c .calculation) w i h (k .0), length-append (movedIn vl (c .calculation) w i) (movedOver vl v cs i))
+    (arith, moved-all vl cs v i l h (nm .1) (effect-good vl (c .calculation) w l g (nm .0) (k .0)) (k .1), moved-counts vl (c .calculation) w i (omega (arith, g .all)) (k .0) l (g .good i h), length-append (movedIn vl (c .calculation) w i) (movedOver vl v cs i))
 
 -- a register keeps its pattern
 pub pattern-kept : (vl : ℕ) (cs : List Placed) (w : World) (i : ℕ) → i < length (w .machine .registers) → Completed vl w cs
@@ -139,7 +139,7 @@ width-kept vl (c ∷ cs) w i h k s =
     width-kept vl cs (effect vl (c .calculation) w) i (next-length vl c w i h) (k .1) (stream-stays vl (c .calculation) w i h (k .0) s)
     ∙ width-stays vl (c .calculation) w i h (k .0) s
 
--- a body that is done and names an open load as a source has moved it by an element at least
+-- a body that is done and names an open load as a source has moved it past a stop at least
 pub moves : (vl : ℕ) (cs : List Placed) (w : World) (i : ℕ) → 8 ≤ vl → i < length (w .machine .registers) → Good vl (reg (w .machine) i) → Completed vl w cs
     → openLoad (reg (w .machine) i) ≡ true → names i cs ≡ true → 0 < length (movedOver vl w cs i)
 unfolding Completed movedOver names
@@ -163,7 +163,7 @@ moves vl (c ∷ cs) w i l h g k o n =
           ih (subst (Good vl) (sym q) g) (k .1) (ap openLoad q ∙ o) n,
         )
 
--- so fewer of its elements are to come
+-- so fewer of its stops are to come
 pub fewer : (vl : ℕ) (cs : List Placed) (w : World) (i : ℕ) → 8 ≤ vl → i < 32 → AllNamed cs → AllGood vl (w .machine) → Completed vl w cs
     → openLoad (reg (w .machine) i) ≡ true → names i cs ≡ true → length (toCome (reg (afterAll vl w cs .machine) i)) < length (toCome (reg (w .machine) i))
 fewer vl cs w i l h nm g k o n =

@@ -6,13 +6,12 @@ use Prim.Native.Nat.{ℕ, _+_, _≤_}
 use mathlib.Core.Path.{_≡_, refl}
 use mathlib.Core.List.{List, [], _∷_}
 use lib.ListN.{length}
-use Rattle.engine.specs.Loops.{elements}
-use Rattle.engine.specs.Chunks.{chunk}
+use Rattle.engine.specs.Chunks.{stops, chunk}
 use Rattle.engine.specs.InStep.{Three, StreamChunks, chunkDone, chunksDone}
 use Rattle.engine.specs.declared.stream.Shape.{Shape}
 
--- where no chunk is left, all elements have moved
-pub chunks-over : (s : Shape) (lanes n : ℕ) → StreamChunks s lanes n [] → n ≡ length (elements s)
+-- where no chunk is left, the stream has gone past all stops
+pub chunks-over : (s : Shape) (lanes n : ℕ) → StreamChunks s lanes n [] → n ≡ length (stops s)
 unfolding StreamChunks
 chunks-over s lanes n c = c
 

@@ -2,10 +2,10 @@
 -- over the stated loops, addresses, little-endian values and lanes alone.
 --
 --   Three, OneShape          a calculation's three patterns
---   Streaming                a register whose stream has moved some elements
---   InStep                   the three streams at one element
+--   Streaming                a register whose stream has gone past some stops
+--   InStep                   the three streams at one stop
 --   AllInside                every element of all three lies inside memory
---   StreamChunks             the chunks of a stream, one after the other
+--   StreamChunks             the stops of a stream's chunks, one chunk after the other
 --   chunkDone, chunksDone    memory after a chunk: all lanes of both sources read, then all stored; after chunks in order
 use Prim.Native.Nat.{ℕ, _+_, _*_, _≤_}
 use mathlib.Core.Path.{_≡_}
@@ -16,8 +16,7 @@ use Rattle.codec.specs.declared.header.Kind.the-variants.{Load, Store}
 use Rattle.codec.specs.declared.operation.Action.{Action}
 use Rattle.codec.specs.declared.operation.Task.the-variants.{Each}
 use Rattle.codec.specs.declared.operation.Calculation.{Calculation}
-use Rattle.engine.specs.Loops.{elements}
-use Rattle.engine.specs.Chunks.{chunk}
+use Rattle.engine.specs.Chunks.{stops, chunk}
 use Rattle.engine.specs.Memory.{fetch, stored}
 use Rattle.engine.specs.Lanes.{lane, lanewise}
 use Rattle.engine.specs.Registers.{stateAfter, reg}
@@ -43,7 +42,7 @@ pub record OneShape (b : Three) (s : Shape) : Type 0 where
   pub second : b .second .shape ≡ s
   pub destination : b .destination .shape ≡ s
 
--- a register whose stream has pattern p and has moved n elements: open, or finished if these are all
+-- a register whose stream has pattern p and has gone past n stops: open, or finished if these are all
 pub record Streaming (p : Pattern) (kind : Kind) (width n : ℕ) (r : Register) : Type 0 where
   pub pattern : r .pattern ≡ p
   pub is : r .kind ≡ kind
@@ -51,7 +50,7 @@ pub record Streaming (p : Pattern) (kind : Kind) (width n : ℕ) (r : Register) 
   pub moved : r .moved ≡ n
   pub state : r .state ≡ stateAfter (p .shape) n
 
--- a calculation from two loads to a store, in three registers or two, all of them at element n
+-- a calculation from two loads to a store, in three registers or two, all of them at stop n
 pub record InStep (vl : ℕ) (b : Three) (c : Calculation) (n : ℕ) (w : World) : Type 0 where
   pub named : Named c
   pub task : c .task ≡ Each (b .action)
@@ -68,12 +67,12 @@ pub record AllInside (b : Three) (len : ℕ) (vs : List (List ℕ)) : Type 0 whe
   pub second : AllLie len (b .width) (b .second) vs
   pub destination : AllLie len (b .width) (b .destination) vs
 
--- the chunks of a stream from element n on, up to its end
+-- the stops of a stream's chunks, from stop n on, up to its end
 unfoldable pub StreamChunks : Shape → ℕ → ℕ → List (List (List ℕ)) → Type 0
-StreamChunks s lanes n [] = n ≡ length (elements s)
+StreamChunks s lanes n [] = n ≡ length (stops s)
 StreamChunks s lanes n (vs ∷ gs) = (vs ≡ chunk s lanes n) × (1 ≤ length vs) × StreamChunks s lanes (n + length vs) gs
 
--- memory after one chunk: all lanes of both sources are read, then all are stored
+-- memory after a chunk whose elements are vs: all lanes of both sources are read, then all are stored
 abbrev pub chunkDone : Three → List ℕ → List (List ℕ) → List ℕ
 chunkDone b memory vs =
     stored (b .destination) (b .width) memory vs

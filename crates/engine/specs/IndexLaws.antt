@@ -19,17 +19,17 @@ use Rattle.engine.specs.Registers.{indexOf}
 use Rattle.engine.specs.BoundLaws.{Under, at-under, under-small}
 use Rattle.engine.specs.Good.{Accepted}
 use Rattle.engine.specs.Walk.{at, after, Element}
-use Rattle.engine.specs.WalkLaws.{getD-pad, added-pad, size-pad, index-pad, standing, start, loops-padded}
+use Rattle.engine.specs.WalkLaws.{getD-zeros, drop-replicate, getD-pad, added-pad, size-pad, index-pad, standing, start, loops-padded}
 use Rattle.engine.specs.declared.stream.Shape.{Shape}
 use Rattle.engine.specs.declared.stream.Pattern.{Pattern}
 
 -- two functions that agree on a list's elements
-map-same : {A B : Type 0} (f g : A → B) (l : List A) (z : A) → ((k : ℕ) → k < length l → f (getD l k z) ≡ g (getD l k z)) → map f l ≡ map g l
+pub map-same : {A B : Type 0} (f g : A → B) (l : List A) (z : A) → ((k : ℕ) → k < length l → f (getD l k z) ≡ g (getD l k z)) → map f l ≡ map g l
 map-same f g [] z h = refl
 map-same f g (x ∷ l) z h = ap₂ _∷_ (h 0 (omega arith)) (map-same f g l z (λ k q. h (suc k) (omega arith)))
 
 -- the images of a list without its first k are the images of the rest
-drop-map : {A B : Type 0} (f : A → B) (k : ℕ) (l : List A) → drop k (map f l) ≡ map f (drop k l)
+pub drop-map : {A B : Type 0} (f : A → B) (k : ℕ) (l : List A) → drop k (map f l) ≡ map f (drop k l)
 drop-map f zero l = refl
 drop-map f (suc k) [] = refl
 drop-map f (suc k) (x ∷ l) = drop-map f k l
@@ -39,14 +39,9 @@ pub record Roomy (s : Shape) : Type 0 where
   pub some : 1 ≤ s .dims
   pub most : s .dims ≤ 7
 
--- a number that is not 0 is one more than the one before it
-one-less : (n : ℕ) → 1 ≤ n → n ≡ suc (n - 1)
-one-less n h = omega arith
-
 -- an element has an index for each dimension
 pub element-length : (s : Shape) → Roomy s → (k : ℕ) → k < length (elements s) → length (getD (elements s) k []) ≡ s .dims
-element-length s r k q =
-    standing s (s .dims - 1) (one-less (s .dims) (r .some)) (omega (arith, r .some, r .most)) k q .0 ∙ sym (one-less (s .dims) (r .some))
+element-length s r k q = standing s (r .some) (r .most) k q .0
 
 -- the elements as seven indices each
 seven : (s : Shape) → Roomy s → map (λ v. v ++ replicate (7 - s .dims) 0) (elements s) ≡ map indexOf (elements s)
@@ -55,19 +50,20 @@ seven s r =
     (λ k q. sym (index-pad (getD (elements s) k []) (s .dims) (element-length s r k q) (r .most)))
 
 -- the search for the first element: the outermost dimension is about to run index 0
-pub walk-start : (s : Shape) → Roomy s → at (sizeAt s) (s .dims) (s .dims - 1) (replicate 7 0) ≡ map indexOf (elements s)
+pub walk-start : (s : Shape) → Roomy s → at (sizeAt s) 0 (s .dims) (s .dims - 1) (replicate 7 0) ≡ map indexOf (elements s)
 unfolding elements
 walk-start s r =
-    let e : s .dims ≡ suc (s .dims - 1) = one-less (s .dims) (r .some) in
-    let h : suc (s .dims - 1) ≤ 7 = omega (arith, r .some, r .most) in
-    ap (λ n. at (sizeAt s) n (s .dims - 1) (replicate 7 0)) e
-    ∙ sym (start (sizeAt s) (s .dims - 1) h)
-    ∙ ap (λ n. loops (sizeAt s) 0 n (replicate (7 - n) 0)) (sym e)
-    ∙ sym (loops-padded (sizeAt s) (replicate (7 - s .dims) 0) (size-pad s (7 - s .dims)) (s .dims) [])
+    let n : ℕ = s .dims in
+    let z : List ℕ = replicate (7 - n) 0 in
+    let o : n - 0 ≡ n = omega arith in
+    sym (start (sizeAt s) 0 n (replicate 7 0) (r .some) (getD-zeros 7 (n - 1)))
+    ∙ ap (loops (sizeAt s) 0 (n - 0)) (drop-replicate 0 n 7)
+    ∙ ap (λ j. loops (sizeAt s) 0 j z) o
+    ∙ sym (loops-padded (sizeAt s) z (size-pad s (7 - n)) 0 n [])
     ∙ seven s r
 
 -- one element further on, the first of what is left is gone
-tail-of : {A : Type 0} (k : ℕ) (l : List A) (x : A) (t : List A) → drop k l ≡ x ∷ t → drop (suc k) l ≡ t
+pub tail-of : {A : Type 0} (k : ℕ) (l : List A) (x : A) (t : List A) → drop k l ≡ x ∷ t → drop (suc k) l ≡ t
 tail-of zero [] x t e = absurd (let z : _≡_ {A = ℕ} 0 1 = cc in omega arith)
 tail-of (suc k) [] x t e = absurd (let z : _≡_ {A = ℕ} 0 1 = cc in omega arith)
 tail-of zero (y ∷ l) x t e = cc
@@ -75,16 +71,9 @@ tail-of (suc k) (y ∷ l) x t e = tail-of k l x t e
 
 -- the search for what comes after the element at position k
 pub walk-next : (s : Shape) → Roomy s → (k : ℕ) → k < length (elements s)
-    → after (sizeAt s) (s .dims) (indexOf (getD (elements s) k [])) ≡ map indexOf (drop (suc k) (elements s))
+    → after (sizeAt s) 0 (s .dims) (indexOf (getD (elements s) k [])) ≡ map indexOf (drop (suc k) (elements s))
 walk-next s r k q =
-    let e : s .dims ≡ suc (s .dims - 1) = one-less (s .dims) (r .some) in
-    let h : suc (s .dims - 1) ≤ 7 = omega (arith, r .some, r .most) in
-    let st = standing s (s .dims - 1) e h k q .1 in
-    let f : drop k (map indexOf (elements s)) ≡ indexOf (getD (elements s) k []) ∷ after (sizeAt s) (s .dims) (indexOf (getD (elements s) k [])) =
-    ap (drop k) (sym (seven s r))
-    ∙ ap (λ n. drop k (map (λ v. v ++ replicate (7 - n) 0) (elements s))) e
-    ∙ st
-    ∙ ap (λ n. indexOf (getD (elements s) k []) ∷ after (sizeAt s) n (indexOf (getD (elements s) k []))) (sym e) in
+    let f = ap (drop k) (sym (seven s r)) ∙ standing s (r .some) (r .most) k q .1 in
     sym (tail-of k (map indexOf (elements s)) _ _ f) ∙ drop-map indexOf (suc k) (elements s)
 
 -- what lies outside a dimension, at seven indices

@@ -47,6 +47,10 @@ pub mod ComeLaws
 pub mod CalculationLaws
 pub mod EffectLaws
 pub mod EffectGood
+pub mod StopLaws
+pub mod StopWalk
+pub mod AsBefore
+pub mod StopPlaces
 pub mod StreamLaws
 pub mod HistoryLaws
 pub mod RunLaws
@@ -78,6 +82,12 @@ pub mod Blame
 pub mod ContentLaws
 pub mod StreamSums
 pub mod RowSums
+pub mod PassFlags
+pub mod EndedTold
+pub mod EmptyStores
+pub mod Listed
+pub mod ListedLaws
+pub mod InTurn
 pub mod SumLaws
 pub mod BorderLaws
 pub mod FieldLaws
@@ -89,6 +99,7 @@ pub mod InOrderLaws
 pub mod Table
 pub mod Samples
 pub mod SumSamples
+pub mod RaggedSamples
 pub mod Outlines
 pub mod OutlineLaws
 pub mod AnswerLaws

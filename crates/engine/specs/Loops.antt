@@ -4,7 +4,7 @@
 --   reach, ownerIndex         what a modifier adds at an index of its owner; the index at which its owner stands
 --   share, added              what one modifier, and what all of them, add to a parameter of a dimension
 --   natural, sizeAt           the size of a dimension at given outer indices
---   span, loops               f k, f (k + 1), .. joined; nested loops
+--   join, span, loops         lists joined; f k, f (k + 1), .. joined; nested loops
 --   elements                  the elements of a stream, in order
 --
 -- Dimensions are counted from 0 here, innermost first: dimension d of these definitions is 01's dimension d + 1.
@@ -69,6 +69,11 @@ natural (negsuc n) = 0
 -- the size of dimension d: "the configured value plus or minus .." what the modifiers add
 unfoldable pub sizeAt : Shape → ℕ → List ℕ → ℕ
 sizeAt s d outer = natural (pos (getD (s .sizes) d 0) +ℤ added Size d outer (modifiersOf s))
+
+-- lists joined
+unfoldable pub join : {A : Type 0} → List (List A) → List A
+join [] = []
+join (g ∷ gs) = g ++ join gs
 
 -- f k, f (k + 1), .., n of them, joined
 unfoldable pub span : {A : Type 0} → (ℕ → List A) → ℕ → ℕ → List A

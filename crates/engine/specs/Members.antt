@@ -1,13 +1,14 @@
 -- Members of lists by their places.
 --
 --   Each, Member, Ordered     every member of a list; a member; any two members, the earlier first
---   getD-past                 the place of a member behind the first of two lists
+--   getD-past, getD-map       the place of a member behind the first of two lists; the image of a member
 --   each-one, each-append, each-span             every member of one element, of two lists, of a span
 --   member-left, member-right, member-span       a member of two lists, of a span
 --   ordered-append, ordered-span                 two lists in order, a span in order
+--   front-all                 a front as long as the whole
 use Prim.Native.Nat.{ℕ, zero, suc, _+_, _-_, _≤_, _<_}
-use mathlib.Core.Path.{_≡_, sym, _∙_, ap}
-use mathlib.Core.List.{List, [], _∷_, _++_}
+use mathlib.Core.Path.{_≡_, refl, sym, _∙_, ap}
+use mathlib.Core.List.{List, [], _∷_, _++_, map, append-nil}
 use mathlib.Core.Logic.{_⊎_, inl, inr}
 use native.Mathlib.Omega.{arith}
 use native.Mathlib.Nat.{eq-or-lt-of-le}
@@ -92,3 +93,14 @@ module _ {A : Type 0} (z : A) where
   ordered-span R f k (suc n) o c =
       ordered-append R (f k) (span f (suc k) n) (o k) (ordered-span R f (suc k) n o c)
       (λ i h. each-span (R (getD (f k) i z)) f (suc k) n (λ j p q. c k j p i h))
+
+-- what stands at a place of the images is the image of what stands there
+pub getD-map : {A B : Type 0} (f : A → B) (l : List A) (k : ℕ) (z : A) (y : B) → k < length l → getD (map f l) k y ≡ f (getD l k z)
+getD-map f [] k z y h = absurd (omega arith)
+getD-map f (x ∷ l) zero z y h = refl
+getD-map f (x ∷ l) (suc k) z y h = getD-map f l k z y (omega arith)
+
+-- a front as long as the whole is the whole
+pub front-all : {A : Type 0} (xs ys all : List A) → xs ++ ys ≡ all → length all ≤ length xs → xs ≡ all
+front-all xs [] all e h = sym (append-nil xs) ∙ e
+front-all xs (y ∷ ys) all e h = absurd (omega (arith, ap length e, length-append xs (y ∷ ys)))

@@ -19,18 +19,18 @@ use Rattle.engine.specs.Checks.{Check, _if_, firstOf}
 use Rattle.engine.specs.Registers.{isConfiguring, isOpen}
 use Rattle.engine.specs.Configure.{uncovered, checksFor}
 use Rattle.engine.specs.GoodLaws.{after-configuring}
-use Rattle.engine.specs.Given.{Stream, patternOf, Given, none, going, ended}
-use Rattle.engine.specs.GivenLaws.{elementsOf, Has}
+use Rattle.engine.specs.Given.{Stream, stopsOf, patternOf, Given, none, going, ended}
+use Rattle.engine.specs.GivenLaws.{Has}
 use Rattle.engine.specs.InStep.{Streaming}
 use Rattle.engine.specs.declared.register.State.the-variants.{Open, Finished}
 use Rattle.engine.specs.declared.register.Register.{Register}
 
 -- the checks of an operation on what was given for its register: open needs a register without a stream, or one whose stream had no
--- element; all others one whose stream is being given
+-- stop; all others one whose stream is being given
 abbrev pub checksGiven : Operation → Given → List Check
 checksGiven (op.Open h base) none = []
 checksGiven (op.Open h base) (going t) = WrongState if true ∷ []
-checksGiven (op.Open h base) (ended t) = WrongState if not (leb (length (elementsOf t)) 0) ∷ []
+checksGiven (op.Open h base) (ended t) = WrongState if not (leb (length (stopsOf t)) 0) ∷ []
 checksGiven (op.Dimension d) none = WrongState if true ∷ []
 checksGiven (op.Dimension d) (going t) = TooMany if leb 7 (length (t .dimensions)) ∷ []
 checksGiven (op.Dimension d) (ended t) = WrongState if true ∷ []
@@ -46,7 +46,7 @@ checksGiven (op.End i) (going t) =
 checksGiven (op.End i) (ended t) = WrongState if true ∷ []
 checksGiven (op.Run i n) g = []
 
--- an ended stream of which nothing has moved is open, or finished if it has no element
+-- an ended stream of which nothing has moved is open, or finished if it has no stop
 opens : (b : Bool) → (isConfiguring (cond b Finished Open) || isOpen (cond b Finished Open)) ≡ not b
 opens true = refl
 opens false = refl
@@ -56,16 +56,16 @@ pub offered : (o : Operation) (g : Given) (r : Register) → Has g r → firstOf
 unfolding firstOf
 offered (op.Open h base) none r k = rw k
 offered (op.Open h base) (going t) r k = rw (k .1)
-offered (op.Open h base) (ended t) r k = rw (k .state, opens (leb (length (elementsOf t)) 0))
+offered (op.Open h base) (ended t) r k = rw (k .state, opens (leb (length (stopsOf t)) 0))
 offered (op.Dimension d) none r k = rw k
 offered (op.Dimension d) (going t) r k = rw (k .1, k .0 .pattern)
-offered (op.Dimension d) (ended t) r k = rw (k .state, after-configuring (leb (length (elementsOf t)) 0))
+offered (op.Dimension d) (ended t) r k = rw (k .state, after-configuring (leb (length (stopsOf t)) 0))
 offered (op.Modifier m) none r k = rw k
 offered (op.Modifier m) (going t) r k = rw (k .1, k .0 .pattern)
-offered (op.Modifier m) (ended t) r k = rw (k .state, after-configuring (leb (length (elementsOf t)) 0))
+offered (op.Modifier m) (ended t) r k = rw (k .state, after-configuring (leb (length (stopsOf t)) 0))
 offered (op.End i) none r k = rw k
 offered (op.End i) (going t) r k = rw (k .1, k .0 .pattern)
-offered (op.End i) (ended t) r k = rw (k .state, after-configuring (leb (length (elementsOf t)) 0))
+offered (op.End i) (ended t) r k = rw (k .state, after-configuring (leb (length (stopsOf t)) 0))
 offered (op.Run i n) g r k = refl
 
 -- once all operations of a stream are accepted its register has that stream, nothing moved

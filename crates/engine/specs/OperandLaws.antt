@@ -13,15 +13,14 @@ use lib.Dec.{ltb}
 use borrow.Author.Tests.{lt-ltb, le-ltb}
 use native.Mathlib.Decide.{decLt}
 use Rattle.codec.specs.declared.refusal.Role.{Role}
-use Rattle.engine.specs.Chunks.{chunk, streamGroups}
-use Rattle.engine.specs.ChunkLaws.{take-of-chunk}
+use Rattle.engine.specs.StopLaws.{held-front}
 use Rattle.engine.specs.Memory.{fetch, stored, contents, holding}
 use Rattle.engine.specs.Checks.{Check, firstOf}
 use Rattle.engine.specs.Calculate.{given, insideCheck, readFrom, writtenTo, memoryAfter}
-use Rattle.engine.specs.Registers.{isOpen, shapeOf, nextChunk, movedBy}
+use Rattle.engine.specs.Registers.{isOpen, shapeOf, nextStops, nextChunk, movedBy}
 use Rattle.engine.specs.Stretches.{addressesOf, storedAt, within-elements, lane-elements, fetched-elements, stored-elements}
 use Rattle.engine.specs.EffectLaws.{length-lanes}
-use Rattle.engine.specs.Operands.{Operand, Operates, outsideAt, lanesOf}
+use Rattle.engine.specs.Operands.{Operand, frontOf, Operates, outsideAt, lanesOf}
 use Rattle.engine.specs.declared.stream.Pattern.{Pattern}
 use Rattle.engine.specs.declared.register.Register.{Register}
 
@@ -48,31 +47,31 @@ operand-outside r o vs told addressed role len cs = go (isOpen (r .state)) refl
 module _ (vl : ℕ) (memory : List ℕ) (r : Register) (o : Operand) (h : Operates r (vl / r .width) (r .valid) o) where
   -- as many lanes as it gives
   pub source-count : o .count ≡ length (given vl memory r)
-  unfolding nextChunk
+  unfolding nextChunk nextStops
   source-count = h .counted ∙ sym (given-length vl memory r)
 
   -- an element of it outside memory
   pub source-outside : (role : Role) (len : ℕ) (cs : List Check) → firstOf (outsideAt role len (r .width) (o .live) (o .addresses) ∷ cs) ≡ firstOf (insideCheck role len r (nextChunk vl r) ∷ cs)
-  unfolding nextChunk
-  source-outside role len cs = operand-outside r o (chunk (shapeOf r) (vl / r .width) (r .moved)) (h .told) (h .addressed) role len cs
+  unfolding nextChunk nextStops
+  source-outside role len cs = operand-outside r o (frontOf r (vl / r .width)) (h .told) (h .addressed) role len cs
 
   -- its lanes
   pub source-lanes : lanesOf r o memory ≡ given vl memory r
-  unfolding given nextChunk
+  unfolding given nextChunk nextStops
   source-lanes = go (isOpen (r .state)) refl
     where
       go : (b : Bool) → isOpen (r .state) ≡ b → lanesOf r o memory ≡ given vl memory r
-      go true e = rw (h .told ∙ e, e, h .addressed e) (fetched-elements memory (r .width) (r .pattern) (chunk (shapeOf r) (vl / r .width) (r .moved)))
+      go true e = rw (h .told ∙ e, e, h .addressed e) (fetched-elements memory (r .width) (r .pattern) (frontOf r (vl / r .width)))
       go false e = rw (h .told ∙ e, e)
 
   -- the register after it
   pub source-after : cond (o .live) (holding (r .width) (given vl memory r) (o .after)) r ≡ readFrom vl memory r
-  unfolding readFrom holding movedBy nextChunk
+  unfolding readFrom holding movedBy nextChunk nextStops
   source-after = go (isOpen (r .state)) refl
     where
       go : (b : Bool) → isOpen (r .state) ≡ b → cond (o .live) (holding (r .width) (given vl memory r) (o .after)) r ≡ readFrom vl memory r
       go true e =
-          let n : o .count ≡ length (chunk (shapeOf r) (vl / r .width) (r .moved)) = rw e at (h .counted) in
+          let n : o .count ≡ length (frontOf r (vl / r .width)) = rw e at (h .counted) in
           let a : o .after ≡ movedBy (o .count) r = rw e at (h .after) in
           rw (h .told ∙ e, e, a, n)
       go false e = rw (h .told ∙ e, e)
@@ -95,9 +94,9 @@ less-or-not n m = go (decLt m n)
 
 module _ (vl n : ℕ) (d : Register) (o : Operand) (h : Operates d n n o) (l : isOpen (d .state) ≡ true → n ≤ vl / d .width) where
   -- the front of the next chunk that the store takes
-  front : isOpen (d .state) ≡ true → take n (nextChunk vl d) ≡ chunk (shapeOf d) n (d .moved)
-  unfolding nextChunk
-  front e = take-of-chunk (streamGroups (shapeOf d)) (vl / d .width) (d .moved) n (l e)
+  front : isOpen (d .state) ≡ true → take n (nextChunk vl d) ≡ frontOf d n
+  unfolding nextChunk nextStops
+  front e = held-front (shapeOf d) (vl / d .width) n (d .moved) (l e)
 
   -- the lanes exceed the store's next chunk
   pub target-count : (o .live && ltb (o .count) n) ≡ (isOpen (d .state) && ltb (length (nextChunk vl d)) n)
@@ -132,7 +131,7 @@ module _ (vl n : ℕ) (d : Register) (o : Operand) (h : Operates d n n o) (l : i
         go : (b : Bool) → isOpen (d .state) ≡ b → cond (o .live) (storedAt memory (d .width) (o .addresses) xs) memory ≡ memoryAfter vl xs memory d
         go true e =
             rw (h .told ∙ e, e, h .addressed e)
-            (stored-elements memory (d .width) (d .pattern) (chunk (shapeOf d) n (d .moved)) xs
+            (stored-elements memory (d .width) (d .pattern) (frontOf d n) xs
             ∙ ap (λ vs. stored (d .pattern) (d .width) memory vs xs) (sym (front e) ∙ ap (λ k. take k (nextChunk vl d)) (sym long))
             ∙ stored-front (d .pattern) (d .width) memory (nextChunk vl d) xs)
         go false e = rw (h .told ∙ e, e)

@@ -1,6 +1,6 @@
 -- A calculation's registers as its code takes them: looked at, read, written.
 --
---   Operand, Operates              a register as an operand
+--   Operand, frontOf, Operates     a register as an operand
 --   operandFrom, Taken             the same as the code keeps it
 --   outsideAt, outsideOf           14 at addresses; of an operand
 --   lanesOf                        the lanes that an operand gives
@@ -15,7 +15,7 @@ use lib.ListN.{length}
 use Rattle.codec.specs.declared.operation.Task.{Task}
 use Rattle.codec.specs.declared.refusal.Role.{Role}
 use Rattle.codec.specs.declared.refusal.Refusal.the-variants.{Outside}
-use Rattle.engine.specs.Chunks.{chunk}
+use Rattle.engine.specs.Chunks.{heldIn, chunk}
 use Rattle.engine.specs.Lanes.{outcome}
 use Rattle.engine.specs.Memory.{contents, holding}
 use Rattle.engine.specs.Checks.{Check, _if_, firstOf}
@@ -38,11 +38,15 @@ pub record Operand : Type 0 where
   pub addresses : List ℤ
   pub after : Register
 
+-- at most so many elements of the next chunk of an open stream
+abbrev pub frontOf : Register → ℕ → List (List ℕ)
+frontOf r most = heldIn (shapeOf r) (chunk (shapeOf r) most (r .moved))
+
 -- a register as an operand: of an open stream at most so many elements of its next chunk, of any other register so many lanes
 pub record Operates (r : Register) (most plain : ℕ) (o : Operand) : Type 0 where
   pub told : o .live ≡ isOpen (r .state)
-  pub counted : o .count ≡ cond (isOpen (r .state)) (length (chunk (shapeOf r) most (r .moved))) plain
-  pub addressed : isOpen (r .state) ≡ true → o .addresses ≡ addressesOf (r .pattern) (r .width) (chunk (shapeOf r) most (r .moved))
+  pub counted : o .count ≡ cond (isOpen (r .state)) (length (frontOf r most)) plain
+  pub addressed : isOpen (r .state) ≡ true → o .addresses ≡ addressesOf (r .pattern) (r .width) (frontOf r most)
   pub after : o .after ≡ cond (isOpen (r .state)) (movedBy (o .count) r) r
 
 -- an operand as the code keeps it: with the pattern, the lanes, the row of indices after it and the array of parts

@@ -3,17 +3,20 @@
 --   addressAt     the address of an element, by its position
 --   extentOf      a stream's dimensions and modifiers, its elements, and where the first and the last of them lie
 --   outlineOf     the same of a register whose stream was ended
---   locatedIn     the address of the element at a position, if there is one
+--   locatedIn     the address of the element at a stop, if there is one
 --   elementOf     the same of a register whose stream was ended
 --   Keeps         what is kept of a register's stream
 use Prim.Native.Nat.{ℕ, _-_, _≤_}
 use mathlib.Core.Path.{_≡_}
-use mathlib.Core.Bool.{true, cond, _||_}
+use mathlib.Core.List.{[]}
+use mathlib.Core.Bool.{true, cond, not, _&&_, _||_}
 use lib.ListN.{length, getD}
 use lib.IntN.{pos}
 use lib.Dec.{ltb}
 use Rattle.codec.specs.declared.amounts.Bytes.{Bytes}
 use Rattle.engine.specs.Loops.{elements}
+use Rattle.engine.specs.Chunks.{stops, nothingAt}
+use Rattle.engine.specs.Addresses.{address}
 use Rattle.engine.specs.Stretches.{addressesOf}
 use Rattle.engine.specs.Registers.{isOpen, isFinished}
 use Rattle.engine.specs.Good.{RangedPattern, Accepted}
@@ -44,9 +47,10 @@ extentOf p width = record {
 unfoldable pub outlineOf : Register → Outline
 outlineOf r = cond (isOpen (r .state) || isFinished (r .state)) (Stream (extentOf (r .pattern) (r .width))) Unended
 
--- the address of the element at a position, counted from 0, if the loops have so many
+-- the address of the element at a stop, counted from 0, if there are so many and that one is no coupled pass that holds no element
 unfoldable pub locatedIn : Pattern → ℕ → ℕ → Located
-locatedIn p width n = cond (ltb n (length (elements (p .shape)))) (At (addressAt p width n)) Nowhere
+locatedIn p width n =
+    cond (ltb n (length (stops (p .shape))) && not (nothingAt (p .shape) n)) (At (record { 0 = address p width (getD (stops (p .shape)) n []) })) Nowhere
 
 -- the same of a register's stream, if it was ended
 unfoldable pub elementOf : Register → ℕ → Located

@@ -1,5 +1,6 @@
 -- Promise 2: each element once. For every stream that a sheet ends, at every moment from its end operation on, until its register is
--- opened anew: what has moved and what is to come are the loop's elements, in order, each once.
+-- opened anew: what has moved and what is to come are the loop's elements, in order, each once. The end of stream shows once it has gone past
+-- its last element, or, if it is coupled, its last coupled pass (02, 3/14).
 --
 --   Unmoved, Streams     streams before the run; streams at every moment of it
 --   Empty, AllEmpty, Unnamed, Fresh   registers before any calculation; those that no operation named
@@ -16,7 +17,7 @@ use Rattle.engine.specs.Run.{Progress}
 use Rattle.engine.specs.Sheets.{run}
 use Rattle.engine.specs.Allowed.{Fits}
 use Rattle.engine.specs.Histories.{worldAt, movedOf, Ran}
-use Rattle.engine.specs.Given.{Stream, patternOf, ended, givenFor, AtMoment}
+use Rattle.engine.specs.Given.{Stream, stopsOf, elementsIn, patternOf, ended, givenFor, AtMoment}
 use Rattle.engine.specs.Promise1.{DoneBefore, RunAt, LoopsOn, world}
 use Rattle.engine.specs.declared.register.State.the-variants.{Plain}
 use Rattle.engine.specs.declared.register.Register.{Register}
@@ -48,15 +49,16 @@ pub record Fresh (r : Register) : Type 0 where
   pub width : r .width ≡ 1
   pub empty : Empty r
 
--- the same streams at every moment k of a run: the elements that its first k calculations moved, joined, have moved
+-- the same streams at every moment k of a run: they have gone past the stops that its first k calculations went past, joined
 pub record Streams (vl : ℕ) (os : List Operation) (m : Machine) (memory : List ℕ) (loop : ℕ) (cs : List Placed) (r : Progress) : Type 0 where
   pub ran : Ran vl loop cs (world m memory) r
   pub moments : (i : ℕ) → i < 32 → (t : Stream) → givenFor i os ≡ ended t → (k : ℕ) → k ≤ length (ran .entries)
       → AtMoment t (movedOf (take k (ran .entries)) i) (worldAt (world m memory) (ran .entries) k .machine) i
-  -- the loop register's stream is one of them; done, all of its elements have moved
+  -- the loop register's stream is one of them; done, it has gone past all its stops, and all its elements have moved
   pub stream : Stream
   pub is-ended : givenFor loop os ≡ ended stream
-  pub all : r .verdict ≡ Done → movedOf (ran .entries) loop ≡ elements (patternOf stream .shape)
+  pub all : r .verdict ≡ Done → movedOf (ran .entries) loop ≡ stopsOf stream
+  pub all-moved : r .verdict ≡ Done → elementsIn stream (movedOf (ran .entries) loop) ≡ elements (patternOf stream .shape)
 
 -- promise 2 for a vector length, a sheet and a memory: each element once, at every moment
 pub record Promise2 (vl : ℕ) (s memory : List ℕ) : Type 0 where

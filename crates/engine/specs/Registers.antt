@@ -2,8 +2,8 @@
 --
 --   isConfiguring, isOpen, isFinished, isLoad   a register's state and its stream's kind
 --   noPattern, fresh, noRegister                a fresh register
---   toCome, nextChunk                           the elements still to come; the next chunk
---   indexOf, stateAfter, movedBy                a stream after some elements more moved
+--   toCome, nextStops, nextChunk                the stops still to come; those of the next chunk, and its elements
+--   indexOf, stateAfter, stopsFor, movedBy      a stream after some lanes more
 --   freshMachine, reg, put                      the 32 registers
 use Prim.Native.Nat.{ℕ, _+_, _/_}
 use mathlib.Core.List.{List, [], _++_}
@@ -15,8 +15,7 @@ use Rattle.codec.specs.declared.header.Kind.the-variants.{Load, Store}
 use Rattle.codec.specs.declared.header.Coupling.the-variants.{Uncoupled}
 use Rattle.codec.specs.declared.operation.Parameter.the-variants.{Size}
 use Rattle.codec.specs.declared.operation.Behaviour.the-variants.{Add}
-use Rattle.engine.specs.Loops.{elements}
-use Rattle.engine.specs.Chunks.{chunk, height}
+use Rattle.engine.specs.Chunks.{stops, heldIn, nothingAt, chunk, height}
 use Rattle.engine.specs.Addresses.{noBytes, noElements}
 use Rattle.engine.specs.declared.stream.Modifier.{Modifier}
 use Rattle.engine.specs.declared.stream.Shape.{Shape}
@@ -104,23 +103,27 @@ noRegister = record {
 abbrev pub shapeOf : Register → Shape
 shapeOf r = r .pattern .shape
 
--- the elements still to come: those of an open stream that have not moved
+-- the stops still to come: those of an open stream that it has not gone past
 unfoldable pub toCome : Register → List (List ℕ)
-toCome r = cond (isOpen (r .state)) (drop (r .moved) (elements (shapeOf r))) []
+toCome r = cond (isOpen (r .state)) (drop (r .moved) (stops (shapeOf r))) []
 
--- the next chunk of an open stream; lanes are "vector length / width"
+-- the stops of an open stream's next chunk; lanes are "vector length / width"
+unfoldable pub nextStops : ℕ → Register → List (List ℕ)
+nextStops vl r = chunk (shapeOf r) (vl / r .width) (r .moved)
+
+-- the next chunk: the elements there, none at a coupled pass that holds none
 unfoldable pub nextChunk : ℕ → Register → List (List ℕ)
-nextChunk vl r = chunk (shapeOf r) (vl / r .width) (r .moved)
+nextChunk vl r = heldIn (shapeOf r) (nextStops vl r)
 
--- an element as the register's seven indices, zeros behind
+-- a stop as the register's seven indices, zeros behind
 abbrev pub indexOf : List ℕ → List ℕ
 indexOf v = take 7 (v ++ replicate 7 0)
 
--- "After its last element a stream is finished": the state after n elements in all
+-- "After its last element a stream is finished"; 02, 3/14: a coupled one "finishes after its last coupled pass": the state after n stops
 abbrev pub stateAfter : Shape → ℕ → State
-stateAfter s n = cond (leb (length (elements s)) n) Finished Open
+stateAfter s n = cond (leb (length (stops s)) n) Finished Open
 
--- the state, how many elements have moved, the next one's index and the height of the flags, set; all else as it was
+-- the state, how many stops it has gone past, the next one's index and the height of the flags, set; all else as it was
 abbrev pub standing : State → ℕ → List ℕ → ℕ → Register → Register
 standing k n v h r = record {
   state = k;
@@ -134,13 +137,17 @@ standing k n v h r = record {
   height = h;
 }
 
--- after n elements in all
+-- after n stops in all
 abbrev pub movedTo : ℕ → Register → Register
-movedTo n r = standing (stateAfter (shapeOf r) n) n (indexOf (getD (elements (shapeOf r)) n [])) (height (shapeOf r) n) r
+movedTo n r = standing (stateAfter (shapeOf r) n) n (indexOf (getD (stops (shapeOf r)) n [])) (height (shapeOf r) n) r
 
--- after n elements more moved
+-- how many stops n lanes go past: as many; at a coupled pass that holds no element that one, whatever n is
+abbrev pub stopsFor : Register → ℕ → ℕ
+stopsFor r n = cond (nothingAt (shapeOf r) (r .moved)) 1 n
+
+-- after n lanes more moved
 unfoldable pub movedBy : ℕ → Register → Register
-movedBy n r = movedTo (r .moved + n) r
+movedBy n r = movedTo (r .moved + stopsFor r n) r
 
 -- "A sheet starts with 32 fresh ones"
 abbrev pub freshMachine : Machine

@@ -6,19 +6,21 @@
 --   Read                 the lanes of a source are the chunk read
 --   Summed               a calculation 8 over a stream
 --   RowRead              a row, and the moments between which it is read
+--   passesOf, PassRead   the passes of the coupled dimension; one of them, and the moments between which it is read
 --   Sums, SumsOver       the sums of a stream over a history; over a run
 --   RowSums, SameSums    the promise; the same at two vector lengths
-use Prim.Native.Nat.{ℕ, _+_, _*_, _≤_, _<_}
+use Prim.Native.Nat.{ℕ, suc, _+_, _*_, _≤_, _<_}
 use mathlib.Core.Path.{_≡_}
 use mathlib.Core.List.{List, [], _∷_, _++_, map}
-use lib.ListN.{length, take, drop}
+use mathlib.Core.Bool.{false}
+use lib.ListN.{length, getD, take, drop}
 use Rattle.codec.specs.declared.header.Kind.the-variants.{Load}
+use Rattle.codec.specs.declared.header.Coupling.the-variants.{Coupled}
 use Rattle.codec.specs.declared.operation.Fold.the-variants.{Sum, Smallest, Largest}
 use Rattle.codec.specs.declared.operation.Task.the-variants.{All}
 use Rattle.codec.specs.declared.operation.Operation.{Operation}
-use Rattle.engine.specs.Loops.{elements}
-use Rattle.engine.specs.Chunks.{withElements, streamGroups}
-use Rattle.engine.specs.GroupLaws.{join}
+use Rattle.engine.specs.Loops.{sizeAt, join}
+use Rattle.engine.specs.Chunks.{passes, stops, nothingAt, withElements, streamGroups}
 use Rattle.engine.specs.Memory.{stored, contents}
 use Rattle.engine.specs.Lanes.{folded}
 use Rattle.engine.specs.Registers.{shapeOf, movedTo}
@@ -28,7 +30,7 @@ use Rattle.engine.specs.Run.{Progress}
 use Rattle.engine.specs.Sheets.{run}
 use Rattle.engine.specs.Allowed.{Fits}
 use Rattle.engine.specs.Histories.{Entry, worldAt, movedOf}
-use Rattle.engine.specs.Given.{Stream, patternOf, ended, givenFor}
+use Rattle.engine.specs.Given.{Stream, stopsOf, elementsIn, patternOf, ended, givenFor}
 use Rattle.engine.specs.Promise1.{DoneBefore, RunAt, LoopsOn, world}
 use Rattle.engine.specs.Promise2.{Streams}
 use Rattle.engine.specs.StreamSums.{streamWidth, allOf, valuesOf, sumOf, partialSums, total, entryAt, calculationOf, DidIn, destinationOf, chunkRead, chunksRead, between, Steady, StoresApart, Row}
@@ -52,16 +54,19 @@ pub record Summed (vl : ℕ) (t : Stream) (w : World) (e : Entry) (i : ℕ) : Ty
   -- a plain destination has that lane afterwards, of the stream's width
   pub plain : destinationOf w e .state ≡ Plain
       → (destinationOf (e .after) e .width ≡ streamWidth t) × (contents (destinationOf (e .after) e) ≡ sumOf t (chunkRead w e i) ∷ [])
-  -- of a store stream it stands at the next element, and the stream has moved on by 1
+  -- of a store stream it stands at the next element, and the stream has moved on by 1; at a coupled pass that holds none (02, 3/14: "refuses
+  -- more") it was refused
   pub store : destinationOf w e .state ≡ Open
-      → (e .after .memory
+      → (nothingAt (shapeOf (destinationOf w e)) (destinationOf w e .moved) ≡ false)
+      × (e .after .memory
       ≡ stored (destinationOf w e .pattern) (destinationOf w e .width) (w .memory)
-      (take 1 (drop (destinationOf w e .moved) (elements (shapeOf (destinationOf w e))))) (sumOf t (chunkRead w e i) ∷ []))
+      (take 1 (drop (destinationOf w e .moved) (stops (shapeOf (destinationOf w e))))) (sumOf t (chunkRead w e i) ∷ []))
       × (destinationOf (e .after) e ≡ movedTo (destinationOf w e .moved + 1) (destinationOf w e))
 
 -- ---- a history, from w
 
--- a row is read between two moments, whole and alone; the partial sums of the chunks between them, added up, are its sum
+-- a row, given by its stops and those before it, is read between two moments, whole and alone; the partial sums of the chunks between them,
+-- added up, are the sum over its elements
 pub record RowRead (t : Stream) (w : World) (es : List Entry) (i : ℕ) (before row : List (List ℕ)) : Type 0 where
   pub from : ℕ
   pub to : ℕ
@@ -69,7 +74,28 @@ pub record RowRead (t : Stream) (w : World) (es : List Entry) (i : ℕ) (before 
   pub in-history : to ≤ length es
   pub not-yet : movedOf (take from es) i ≡ before
   pub then : movedOf (take to es) i ≡ before ++ row
-  pub sum : total t (between from to (chunksRead w es i)) ≡ sumOf t (valuesOf t (w .memory) row)
+  pub sum : total t (between from to (chunksRead w es i)) ≡ sumOf t (valuesOf t (w .memory) (elementsIn t row))
+
+-- coupled to dimension c: the passes of that dimension that the outer loops reach, in order, those that hold no element too
+abbrev pub passesOf : Stream → ℕ → List (List (List ℕ))
+passesOf t c = passes (sizeAt (patternOf t .shape)) c (length (t .dimensions))
+
+-- where a stream stops before pass n, counted from 0: in the first n of them
+abbrev pub stopsBefore : Stream → ℕ → List (List ℕ)
+stopsBefore t n = join (take n (streamGroups (patternOf t .shape)))
+
+-- 02, 3/14: "row n of the sums" is "row n of the image": pass n, counted from 0, is read between two moments, and nothing else is
+pub record PassRead (t : Stream) (w : World) (es : List Entry) (i c n : ℕ) : Type 0 where
+  pub from : ℕ
+  pub to : ℕ
+  -- a chunk at least is read for it, also if it holds no element: it "must give one chunk with no valid lanes"
+  pub in-order : from < to
+  pub in-history : to ≤ length es
+  pub not-yet : movedOf (take from es) i ≡ stopsBefore t n
+  pub then : movedOf (take to es) i ≡ stopsBefore t (suc n)
+  -- the partial sums of its chunks, added up, are the sum over its elements; 0 if it holds none
+  pub sum : total t (between from to (chunksRead w es i)) ≡ sumOf t (valuesOf t (w .memory) (getD (passesOf t c) n []))
+  pub nothing : getD (passesOf t c) n [] ≡ [] → total t (between from to (chunksRead w es i)) ≡ 0
 
 -- the stream t in register i
 pub record Sums (vl : ℕ) (t : Stream) (w : World) (es : List Entry) (i : ℕ) : Type 0 where
@@ -89,11 +115,13 @@ pub record Sums (vl : ℕ) (t : Stream) (w : World) (es : List Entry) (i : ℕ) 
       → folded Largest (8 * streamWidth t) (map (folded Largest (8 * streamWidth t)) (withElements (between j k (chunksRead w es i))))
       ≡ folded Largest (8 * streamWidth t) (join (between j k (chunksRead w es i)))
   -- if steady, the lanes read are the values of the elements moved, in order, each once; the sum is theirs
-  pub values : Steady t w es i → (j k : ℕ) → join (between j k (chunksRead w es i)) ≡ valuesOf t (w .memory) (movedOf (between j k es) i)
-  pub moved : Steady t w es i → (j k : ℕ) → total t (between j k (chunksRead w es i)) ≡ sumOf t (valuesOf t (w .memory) (movedOf (between j k es) i))
-  -- once all have moved, of all the loop's elements
-  pub whole : Steady t w es i → movedOf es i ≡ allOf t → total t (chunksRead w es i) ≡ sumOf t (valuesOf t (w .memory) (allOf t))
-  -- and of each row of a load, once its elements have moved
+  pub values : Steady t w es i → (j k : ℕ)
+      → join (between j k (chunksRead w es i)) ≡ valuesOf t (w .memory) (elementsIn t (movedOf (between j k es) i))
+  pub moved : Steady t w es i → (j k : ℕ)
+      → total t (between j k (chunksRead w es i)) ≡ sumOf t (valuesOf t (w .memory) (elementsIn t (movedOf (between j k es) i)))
+  -- once it has gone past all its stops, of all the loop's elements
+  pub whole : Steady t w es i → movedOf es i ≡ stopsOf t → total t (chunksRead w es i) ≡ sumOf t (valuesOf t (w .memory) (allOf t))
+  -- and of each row of a load, once it has gone past it
   pub rows : Steady t w es i → t .header .kind ≡ Load → (before row behind : List (List ℕ)) → Row (patternOf t .shape) before row behind
       → length (before ++ row) ≤ length (movedOf es i) → RowRead t w es i before row
 
@@ -103,13 +131,21 @@ pub record Sums (vl : ℕ) (t : Stream) (w : World) (es : List Entry) (i : ℕ) 
 pub record SumsOver (vl : ℕ) (os : List Operation) (m : Machine) (memory : List ℕ) (loop : ℕ) (cs : List Placed) (r : Progress)
     (q : Streams vl os m memory loop cs r) (i : ℕ) (t : Stream) : Type 0 where
   pub sums : Sums vl t (world m memory) (q .ran .entries) i
-  -- each pass of its coupled dimension that has an element is a row; if it is uncoupled, all elements are one
+  -- each pass of its coupled dimension is a row, whether it has elements or not; if it is uncoupled, all elements are one
   pub passes : (gs : List (List (List ℕ))) (g : List (List ℕ)) (hs : List (List (List ℕ))) → streamGroups (patternOf t .shape) ≡ gs ++ (g ∷ hs)
       → Row (patternOf t .shape) (join gs) g (join hs)
+  -- coupled to dimension c: the elements of its groups, group by group, are the passes of that dimension that the outer loops reach
+  pub in-passes : (c : ℕ) → t .header .coupling ≡ Coupled c → map (elementsIn t) (streamGroups (patternOf t .shape)) ≡ passesOf t c
+  -- if steady, each pass that a load has gone past has its sum, in order; once the question for the end of the stream is told yes, each pass
+  pub by-pass : Steady t (world m memory) (q .ran .entries) i → t .header .kind ≡ Load → (c : ℕ) → t .header .coupling ≡ Coupled c → (n : ℕ)
+      → n < length (passesOf t c) → length (stopsBefore t (suc n)) ≤ length (movedOf (q .ran .entries) i)
+      → PassRead t (world m memory) (q .ran .entries) i c n
+  pub all-sums : Steady t (world m memory) (q .ran .entries) i → t .header .kind ≡ Load → (c : ℕ) → t .header .coupling ≡ Coupled c
+      → askEnd (r .world .machine) i ≡ Yes → (n : ℕ) → n < length (passesOf t c) → PassRead t (world m memory) (q .ran .entries) i c n
   -- it is steady if the body stores nothing that the stream reads
   pub steady : StoresApart t os cs → Steady t (world m memory) (q .ran .entries) i
-  -- all elements have moved once the question for the end of the stream is told yes
-  pub walked : askEnd (r .world .machine) i ≡ Yes → movedOf (q .ran .entries) i ≡ allOf t
+  -- it has gone past all its stops once the question for the end of the stream is told yes
+  pub walked : askEnd (r .world .machine) i ≡ Yes → movedOf (q .ran .entries) i ≡ stopsOf t
 
 -- for a vector length, a sheet and a memory: of every stream that the sheet ended, coupled or not
 pub record RowSums (vl : ℕ) (s memory : List ℕ) : Type 0 where
@@ -119,11 +155,11 @@ pub record RowSums (vl : ℕ) (s memory : List ℕ) : Type 0 where
 
 -- for two vector lengths, a and b: the runs of one sheet on one memory, with the histories p and q
 pub record SameSums (a b : ℕ) (s memory : List ℕ) : Type 0 where
-  -- a stream all of whose elements moved in both has the same total
+  -- a stream that went past all its stops in both has the same total
   pub walked : (os : List Operation) (m : Machine) (loop : ℕ) (cs : List Placed) (p : Streams a os m memory loop cs (run a s memory))
       (q : Streams b os m memory loop cs (run b s memory)) → (i : ℕ) → i < 32 → (t : Stream) → givenFor i os ≡ ended t
       → Steady t (world m memory) (p .ran .entries) i → Steady t (world m memory) (q .ran .entries) i
-      → movedOf (p .ran .entries) i ≡ allOf t → movedOf (q .ran .entries) i ≡ allOf t
+      → movedOf (p .ran .entries) i ≡ stopsOf t → movedOf (q .ran .entries) i ≡ stopsOf t
       → total t (chunksRead (world m memory) (p .ran .entries) i) ≡ total t (chunksRead (world m memory) (q .ran .entries) i)
   -- so has the loop register's stream, if both runs are done and the body stores nothing that it reads
   pub done : Fits a (length memory) → Fits b (length memory) → (os : List Operation) (at : ℕ) (m : Machine) (loop : ℕ) (cs : List Placed)
@@ -135,5 +171,11 @@ pub record SameSums (a b : ℕ) (s memory : List ℕ) : Type 0 where
   pub rows : (os : List Operation) (m : Machine) (loop : ℕ) (cs : List Placed) (p : Streams a os m memory loop cs (run a s memory))
       (q : Streams b os m memory loop cs (run b s memory)) (i : ℕ) (t : Stream) (before row : List (List ℕ))
       (x : RowRead t (world m memory) (p .ran .entries) i before row) (y : RowRead t (world m memory) (q .ran .entries) i before row)
+      → total t (between (x .from) (x .to) (chunksRead (world m memory) (p .ran .entries) i))
+      ≡ total t (between (y .from) (y .to) (chunksRead (world m memory) (q .ran .entries) i))
+  -- and each pass of its coupled dimension, whether it holds elements or not
+  pub passes : (os : List Operation) (m : Machine) (loop : ℕ) (cs : List Placed) (p : Streams a os m memory loop cs (run a s memory))
+      (q : Streams b os m memory loop cs (run b s memory)) (i : ℕ) (t : Stream) (c n : ℕ)
+      (x : PassRead t (world m memory) (p .ran .entries) i c n) (y : PassRead t (world m memory) (q .ran .entries) i c n)
       → total t (between (x .from) (x .to) (chunksRead (world m memory) (p .ran .entries) i))
       ≡ total t (between (y .from) (y .to) (chunksRead (world m memory) (q .ran .entries) i))

@@ -4,8 +4,8 @@
 --   placeOf, spotted              where it stands in its row; a spot with its indices
 --   viewOf, bare                  the register that it stands for
 --   filledWith                    with another content
---   Remembers                     what it remembers of the next element is so
---   behind, afterwards            behind a chunk
+--   Remembers                     what it remembers of the next stop is so
+--   goneBy, behind, afterwards    behind a chunk
 --   listedIn                      the addresses of a chunk
 --   rowAhead, partOf              a chunk of the present row; a part
 --   Near, Looks                   a chunk looked at
@@ -16,7 +16,8 @@ use mathlib.Core.Bool.{Bool, true, cond}
 use lib.ListN.{length, take, set}
 use lib.IntN.{ℤ, pos, natAbs, _+ℤ_, _*ℤ_}
 use Rattle.codec.specs.declared.amounts.Bytes.{Bytes}
-use Rattle.engine.specs.Chunks.{chunk}
+use lib.Dec.{eqb}
+use Rattle.engine.specs.Chunks.{heldIn, chunk}
 use Rattle.engine.specs.Registers.{isOpen, noPattern, movedBy}
 use Rattle.engine.specs.Places.{Place, placeAt, inRow}
 use Rattle.engine.specs.Stretches.{joinedIn, addressesOf}
@@ -68,18 +69,22 @@ filledWith width n q = record {
   step = q .step;
 }
 
--- what an open one remembers of its next element is so
+-- what an open one remembers of its next stop is so
 abbrev pub Remembers : Pattern → List ℕ → Running → Type 0
 Remembers p row q = isOpen (q .state) ≡ true → placeOf row q ≡ placeAt p (q .width) (set row 0 (q .index))
 
--- behind a chunk that was looked at: open where the next element was found, or finished
+-- how many stops n lanes go past: as many; a coupled pass that holds no element, where the size is 0, is one
+abbrev pub goneBy : Running → ℕ → ℕ
+goneBy q n = cond (eqb (q .size) 0) 1 n
+
+-- behind a chunk that was looked at: open where the next stop was found, or finished
 abbrev pub behind : Ahead → Running → Running
 behind o q = record {
   state = cond (o .found) Open Finished;
   kind = q .kind;
   width = q .width;
   valid = q .valid;
-  moved = q .moved + o .count;
+  moved = q .moved + goneBy q (o .count);
   height = o .height;
   index = o .index;
   address = o .address;
@@ -117,9 +122,9 @@ partOf a step n = a .0 ∷ step .0 ∷ pos n ∷ []
 abbrev pub Near : Bytes → Bytes → Type 0
 Near a step = (natAbs (a .0) ≤ 2 ^ 55) × (natAbs (step .0) ≤ 2 ^ 51)
 
--- a chunk of at most so many elements looked at: how many, their addresses, and the register and the row of indices after it
+-- at most so many elements of a chunk looked at: how many, their addresses, and the register and the row of indices after it
 pub record Looks (p : Pattern) (before : List ℕ) (q : Running) (most count : ℕ) (addresses : List ℤ) (row : List ℕ) (after : Running) : Type 0 where
-  pub counted : count ≡ length (chunk (p .shape) most (q .moved))
-  pub addressed : addresses ≡ addressesOf p (q .width) (chunk (p .shape) most (q .moved))
+  pub counted : count ≡ length (heldIn (p .shape) (chunk (p .shape) most (q .moved)))
+  pub addressed : addresses ≡ addressesOf p (q .width) (heldIn (p .shape) (chunk (p .shape) most (q .moved)))
   pub moved : (lanes : List ℕ) → viewOf p lanes row after ≡ movedBy count (viewOf p lanes before q)
   pub remembers : Remembers p row after

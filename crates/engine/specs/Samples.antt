@@ -16,15 +16,15 @@ use Rattle.codec.specs.Refusals.{numberOf, laneOf, operandOf}
 use Rattle.codec.specs.Numbers.{groupsAt, numberAt, signedOf}
 use Rattle.codec.specs.Headers.{headerSaid, headerOf}
 use Rattle.codec.specs.Operations.{openAt, dimensionAt, modifierAt, endAt, runAt, operationAt, calculationAt}
-use Rattle.engine.specs.Loops.{sizeAt, added, span, loops, elements}
-use Rattle.engine.specs.Chunks.{passes, withElements, groups, leftAfter, chunkOf, differ, height}
+use Rattle.engine.specs.Loops.{sizeAt, added, join, span, loops, elements}
+use Rattle.engine.specs.Chunks.{passStops, stopsIn, isElement, elementsAmong, nothingAt, withElements, groups, leftAfter, chunkOf, differ, height}
 use Rattle.engine.specs.Rules.{only, highs, lowOrHighFrom, product}
 use Rattle.engine.specs.Addresses.{addressUpTo}
 use Rattle.engine.specs.Memory.{valueAt, littleEndian, stored, lanesFrom, joined, holding}
 use Rattle.engine.specs.Lanes.{lanewise}
 use Rattle.engine.specs.Calculate.{given, results, allInside, laneOutside, refusalOf, readFrom, writtenTo, memoryAfter, effect}
 use Rattle.engine.specs.Checks.{firstOf}
-use Rattle.engine.specs.Registers.{nextChunk, movedBy, toCome}
+use Rattle.engine.specs.Registers.{nextStops, nextChunk, movedBy, toCome}
 use Rattle.engine.specs.Configure.{whyNot, configured}
 use Rattle.engine.specs.Run.{Progress, passBy, repeatBy}
 use Rattle.engine.specs.Sheets.{bodyAt, names, operationsFrom, run}
@@ -64,10 +64,10 @@ between = (200 ∷ 0 ∷ 0x80 ∷ []) ++ replicate 5 7 ++ (100 ∷ 1 ∷ 1 ∷ [
 -- the run of a sheet; to unfold it is to unfold all that it computes with
 unfoldable pub ran : ℕ → List ℕ → List ℕ → Progress
 unfolding groupsAt numberAt signedOf headerSaid headerOf openAt dimensionAt modifierAt endAt runAt operationAt calculationAt
-    sizeAt added span loops elements passes withElements groups leftAfter chunkOf differ height only highs lowOrHighFrom product
+    sizeAt added join span loops elements passStops stopsIn isElement elementsAmong nothingAt withElements groups leftAfter chunkOf differ height only highs lowOrHighFrom product
     addressUpTo valueAt littleEndian stored lanesFrom joined holding lanewise
     given results allInside laneOutside refusalOf readFrom writtenTo memoryAfter effect
-    firstOf nextChunk movedBy toCome whyNot configured passBy repeatBy bodyAt names operationsFrom
+    firstOf nextStops nextChunk movedBy toCome whyNot configured passBy repeatBy bodyAt names operationsFrom
 ran vl s memory = run vl s memory
 
 -- its memory afterwards, from byte 16 on
@@ -88,7 +88,7 @@ pub patterns :
     × (addresses far ≡ pos 0 ∷ pos 10 ∷ pos 100 ∷ pos 101 ∷ pos 102 ∷ pos 110 ∷ pos 111 ∷ pos 112 ∷ [])
 unfolding widened shifted far register prepared addresses
     groupsAt numberAt signedOf headerSaid headerOf openAt dimensionAt modifierAt endAt operationAt
-    sizeAt added span loops elements only highs lowOrHighFrom product height differ
+    sizeAt added join span loops elements passStops stopsIn isElement nothingAt only highs lowOrHighFrom product height differ
     addressUpTo firstOf movedBy whyNot configured operationsFrom
 patterns = (refl, refl, refl, refl, refl, refl, refl)
 

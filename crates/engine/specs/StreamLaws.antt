@@ -1,13 +1,13 @@
 -- What one calculation that is not refused does to one register's stream.
 --
---   movedIn                            the elements of a register that a calculation moves
+--   movedIn                            the stops of a register that a calculation goes past
 --   Ways, goes                         the four ways that a register can go
---   once                               the elements moved, then those to come, are those that were to come
+--   once                               the stops gone past, then those to come, are those that were to come
 --   pattern-stays, kind-stays, width-stays, stream-stays, stream-was   a stream keeps its pattern, kind and width, stays one, and was one
---   moved-counts                       the elements moved are counted
---   load-moves, store-moves            a load named as a source moves its next chunk; the store that is the destination the front of it
+--   moved-counts                       they are counted
+--   load-moves, store-moves            a load named as a source goes past its next chunk; the store that is the destination past the front of it
 --   shut-idle, unnamed-idle            one that is not open, or not named, moves nothing
---   read-some                          a load that is read moves at least one element
+--   read-some                          a load that is read goes past at least one stop
 --   not-destination, unnamed           an open load is no destination; where it is no source either, it stays
 use Prim.Native.Nat.{ℕ, _+_, _≤_, _<_}
 use mathlib.Core.Path.{_≡_, refl, sym, _∙_, ap, subst}
@@ -21,23 +21,23 @@ use borrow.Author.Tests.{eqb-true}
 use Rattle.codec.specs.TestLaws.{never, and-false, both, and-left, and-right, and-both}
 use Rattle.codec.specs.declared.operation.Calculation.{Calculation}
 use Rattle.engine.specs.Memory.{holding}
-use Rattle.engine.specs.Registers.{isOpen, isFinished, isLoad, openLoad, openStore, toCome, nextChunk, movedBy, reg}
+use Rattle.engine.specs.Registers.{isOpen, isFinished, isLoad, openLoad, openStore, toCome, nextStops, nextChunk, stopsFor, movedBy, reg}
 use Rattle.engine.specs.Calculate.{World, given, results, refusalOf, readFrom, writtenTo, effect}
 use Rattle.engine.specs.Good.{Good}
-use Rattle.engine.specs.ComeLaws.{come-holding, come-moved-holding, split, next-front, next-some, IsStream, stream-moved}
+use Rattle.engine.specs.ComeLaws.{come-holding, come-moved-holding, split, next-front, next-some, past-chunk, past-most, IsStream, stream-moved}
 use Rattle.engine.specs.CalculationLaws.{checked}
 use Rattle.engine.specs.EffectLaws.{effect-reg, read-open, read-shut, written-open, written-shut, open-store, room}
 use Rattle.engine.specs.declared.check.Why.the-variants.{Nothing}
 use Rattle.engine.specs.declared.register.Register.{Register}
 
--- the elements of register i that a calculation moves: of the open store that is the destination, as many as the result has lanes; of
--- an open load named as a source, its next chunk; else none
+-- the stops of register i that a calculation goes past: of the open store that is the destination, as many as the result's lanes go past;
+-- of an open load named as a source, its next chunk; else none
 unfoldable pub movedIn : ℕ → Calculation → World → ℕ → List (List ℕ)
 movedIn vl c w i =
-    cond (openStore (reg (w .machine) i) && eqb i (c .destination)) (take (length (results vl c w)) (nextChunk vl (reg (w .machine) i)))
-    (cond (openLoad (reg (w .machine) i) && (eqb i (c .first) || eqb i (c .second))) (nextChunk vl (reg (w .machine) i)) [])
+    cond (openStore (reg (w .machine) i) && eqb i (c .destination)) (take (stopsFor (reg (w .machine) i) (length (results vl c w))) (nextStops vl (reg (w .machine) i)))
+    (cond (openLoad (reg (w .machine) i) && (eqb i (c .first) || eqb i (c .second))) (nextStops vl (reg (w .machine) i)) [])
 
--- what holds of register i after a calculation and of the elements moved holds if it does for each way that the register can go: not
+-- what holds of register i after a calculation and of the stops gone past holds if it does for each way that the register can go: not
 -- named or named and not open, it stays; a destination that is no stream holds the result; a load was read; a store was written
 pub record Ways (vl : ℕ) (c : Calculation) (w : World) (i : ℕ) (P : Register → List (List ℕ) → Type 0) : Type 0 where
   pub idle : P (reg (w .machine) i) []
@@ -47,9 +47,9 @@ pub record Ways (vl : ℕ) (c : Calculation) (w : World) (i : ℕ) (P : Register
       → P
       (movedBy (length (nextChunk vl (reg (w .machine) i)))
       (holding (reg (w .machine) i .width) (given vl (w .memory) (reg (w .machine) i)) (reg (w .machine) i)))
-      (nextChunk vl (reg (w .machine) i))
+      (nextStops vl (reg (w .machine) i))
   pub stored : isOpen (reg (w .machine) i .state) ≡ true → length (results vl c w) ≤ length (nextChunk vl (reg (w .machine) i))
-      → P (movedBy (length (results vl c w)) (reg (w .machine) i)) (take (length (results vl c w)) (nextChunk vl (reg (w .machine) i)))
+      → P (movedBy (length (results vl c w)) (reg (w .machine) i)) (take (stopsFor (reg (w .machine) i) (length (results vl c w))) (nextStops vl (reg (w .machine) i)))
 
 -- an open register that is no open store is an open load
 open-load : (r : Register) → openStore r ≡ false → isOpen (r .state) ≡ true → openLoad r ≡ true
@@ -76,14 +76,14 @@ no-way : {A : Type 0} (x y : Bool) (s t z : A) → x ≡ false → y ≡ false �
 no-way x y s t z e f = rw (e, f)
 
 module _ (vl : ℕ) (c : Calculation) (w : World) (i : ℕ) where
-  -- the store that is the destination moves as many elements as the result has lanes
+  -- the store that is the destination goes past as many stops as the result's lanes do
   pub store-moves : openStore (reg (w .machine) i) ≡ true → eqb i (c .destination) ≡ true
-      → movedIn vl c w i ≡ take (length (results vl c w)) (nextChunk vl (reg (w .machine) i))
+      → movedIn vl c w i ≡ take (stopsFor (reg (w .machine) i) (length (results vl c w))) (nextStops vl (reg (w .machine) i))
   unfolding movedIn
   store-moves e d = first-way _ _ _ (and-both (openStore (reg (w .machine) i)) (eqb i (c .destination)) e d)
 
-  -- a load named as a source moves its next chunk
-  pub load-moves : openLoad (reg (w .machine) i) ≡ true → (eqb i (c .first) || eqb i (c .second)) ≡ true → movedIn vl c w i ≡ nextChunk vl (reg (w .machine) i)
+  -- a load named as a source goes past its next chunk
+  pub load-moves : openLoad (reg (w .machine) i) ≡ true → (eqb i (c .first) || eqb i (c .second)) ≡ true → movedIn vl c w i ≡ nextStops vl (reg (w .machine) i)
   unfolding movedIn
   load-moves e s =
       second-way _ _ _ _ _
@@ -146,27 +146,32 @@ module _ (vl : ℕ) (c : Calculation) (w : World) (i : ℕ) where
       go false d false q o p a = by _ _ (ways .idle) a (unnamed-idle d q)
 
 module _ (vl : ℕ) (c : Calculation) (w : World) (i : ℕ) (h : i < length (w .machine .registers)) (e : refusalOf vl c w ≡ Nothing) where
-  -- the elements that a calculation moves of a register, then those to come, are those that were to come
-  pub once : Good vl (reg (w .machine) i) → movedIn vl c w i ++ toCome (reg (effect vl c w .machine) i) ≡ toCome (reg (w .machine) i)
-  once g =
+  -- the stops of a register that a calculation goes past, then those to come, are those that were to come
+  pub once : 8 ≤ vl → Good vl (reg (w .machine) i) → movedIn vl c w i ++ toCome (reg (effect vl c w .machine) i) ≡ toCome (reg (w .machine) i)
+  once z g =
       goes vl c w i (λ q l. l ++ toCome q ≡ toCome r) h e
       (record {
         idle = refl;
         kept = λ o f. come-holding _ _ r;
-        loaded = λ o. front (length (nextChunk vl r)) (nextChunk vl r) _ o (next-front vl r g o) (come-moved-holding (length (nextChunk vl r)) (r .width) (given vl (w .memory) r) r);
+        loaded = λ o. front (length (nextChunk vl r)) (nextStops vl r) _ o (whole o) (come-moved-holding (length (nextChunk vl r)) (r .width) (given vl (w .memory) r) r);
         stored = λ o k. front (length (results vl c w)) _ _ o (shorter o k) refl;
       })
     where
       r : Register
       r = reg (w .machine) i
 
-      front : (n : ℕ) (l : List (List ℕ)) (q : Register) → isOpen (r .state) ≡ true → l ≡ take n (toCome r) → toCome q ≡ toCome (movedBy n r)
+      front : (n : ℕ) (l : List (List ℕ)) (q : Register) → isOpen (r .state) ≡ true → l ≡ take (stopsFor r n) (toCome r) → toCome q ≡ toCome (movedBy n r)
           → l ++ toCome q ≡ toCome r
-      front n l q o a b = ap (λ y. y ++ toCome q) a ∙ ap (λ y. take n (toCome r) ++ y) b ∙ split n r o
+      front n l q o a b = ap (λ y. y ++ toCome q) a ∙ ap (λ y. take (stopsFor r n) (toCome r) ++ y) b ∙ split n r o
 
       shorter : isOpen (r .state) ≡ true → length (results vl c w) ≤ length (nextChunk vl r)
-          → take (length (results vl c w)) (nextChunk vl r) ≡ take (length (results vl c w)) (toCome r)
-      shorter o k = ap (take (length (results vl c w))) (next-front vl r g o) ∙ take-take (length (results vl c w)) (length (nextChunk vl r)) (toCome r) k
+          → take (stopsFor r (length (results vl c w))) (nextStops vl r) ≡ take (stopsFor r (length (results vl c w))) (toCome r)
+      shorter o k =
+          let n : ℕ = stopsFor r (length (results vl c w)) in
+          ap (take n) (next-front vl r o) ∙ take-take n (length (nextStops vl r)) (toCome r) (past-most vl r z g o (length (results vl c w)) k)
+
+      whole : isOpen (r .state) ≡ true → nextStops vl r ≡ take (stopsFor r (length (nextChunk vl r))) (toCome r)
+      whole o = next-front vl r o ∙ ap (λ n. take n (toCome r)) (sym (past-chunk vl r z g o))
 
   -- every register keeps its pattern
   pub pattern-stays : reg (effect vl c w .machine) i .pattern ≡ reg (w .machine) i .pattern
@@ -178,16 +183,19 @@ module _ (vl : ℕ) (c : Calculation) (w : World) (i : ℕ) (h : i < length (w .
   unfolding movedBy holding
   kind-stays = goes vl c w i (λ q l. q .kind ≡ reg (w .machine) i .kind) h e (record { idle = refl; kept = λ o f. refl; loaded = λ o. refl; stored = λ o k. refl })
 
-  -- the elements moved are counted
-  pub moved-counts : reg (effect vl c w .machine) i .moved ≡ reg (w .machine) i .moved + length (movedIn vl c w i)
+  -- the stops gone past are counted
+  pub moved-counts : 8 ≤ vl → Good vl (reg (w .machine) i) → reg (effect vl c w .machine) i .moved ≡ reg (w .machine) i .moved + length (movedIn vl c w i)
   unfolding movedBy holding
-  moved-counts =
+  moved-counts z g =
       goes vl c w i (λ q l. q .moved ≡ reg (w .machine) i .moved + length l) h e
       (record {
         idle = omega arith;
         kept = λ o f. omega arith;
-        loaded = λ o. refl;
-        stored = λ o k. ap (λ n. reg (w .machine) i .moved + n) (sym (length-take-le (length (results vl c w)) (nextChunk vl (reg (w .machine) i)) k));
+        loaded = λ o. ap (λ n. reg (w .machine) i .moved + n) (past-chunk vl (reg (w .machine) i) z g o);
+        stored =
+            λ o k.
+            ap (λ n. reg (w .machine) i .moved + n)
+            (sym (length-take-le (stopsFor (reg (w .machine) i) (length (results vl c w))) (nextStops vl (reg (w .machine) i)) (past-most vl (reg (w .machine) i) z g o (length (results vl c w)) k)));
       })
 
   -- a register that is neither open nor finished has no stream
@@ -214,7 +222,7 @@ module _ (vl : ℕ) (c : Calculation) (w : World) (i : ℕ) (h : i < length (w .
       goes vl c w i (λ q l. IsStream q → IsStream (reg (w .machine) i)) h e
       (record { idle = λ s. s; kept = λ o f s. s; loaded = λ o s. rw o; stored = λ o k s. rw o })
 
--- a load that is read moves at least one element
+-- a load that is read goes past at least one stop
 pub read-some : (vl : ℕ) (c : Calculation) (w : World) (i : ℕ) → 8 ≤ vl → Good vl (reg (w .machine) i) → openLoad (reg (w .machine) i) ≡ true
     → (eqb i (c .first) || eqb i (c .second)) ≡ true → 0 < length (movedIn vl c w i)
 read-some vl c w i h g o s =

@@ -6,7 +6,7 @@
 --   chunkRead, chunksRead, between  what a stream gave in an entry; in each; between two moments
 --   Steady                          each value is still there when it is read
 --   Clear, StoresApart              the body stores nothing that the stream reads
---   Row                             one row of a stream, or several
+--   Row                             the stops of one row of a stream, or of several
 use Prim.Native.Nat.{ℕ, _+_, _*_, _≤_, _<_}
 use mathlib.Core.Path.{_≡_}
 use mathlib.Core.Logic.{_⊎_}
@@ -19,12 +19,13 @@ use Rattle.codec.specs.declared.operation.Fold.the-variants.{Sum}
 use Rattle.codec.specs.declared.operation.Calculation.{Calculation}
 use Rattle.codec.specs.declared.operation.Operation.{Operation}
 use Rattle.engine.specs.Loops.{elements}
+use Rattle.engine.specs.Chunks.{stops, heldIn}
 use Rattle.engine.specs.Memory.{spot, fetch}
 use Rattle.engine.specs.Lanes.{lane, folded}
-use Rattle.engine.specs.Registers.{reg}
+use Rattle.engine.specs.Registers.{shapeOf, reg}
 use Rattle.engine.specs.Calculate.{World}
 use Rattle.engine.specs.Histories.{PassEnds, Did, Entry, worldAt, noPlaced}
-use Rattle.engine.specs.Given.{Stream, patternOf, ended, givenFor}
+use Rattle.engine.specs.Given.{Stream, elementsIn, patternOf, ended, givenFor}
 use Rattle.engine.specs.declared.stream.Shape.{Shape}
 use Rattle.engine.specs.declared.register.Register.{Register}
 use Rattle.engine.specs.declared.run.Placed.{Placed}
@@ -78,9 +79,10 @@ abbrev pub destinationOf : World → Entry → Register
 destinationOf w e = reg (w .machine) (calculationOf e .destination)
 
 -- what register i's stream gives in an entry from w: its chunk, with the values that memory holds then; no lanes in an entry that does not
--- read it. Of a store it is what stood where the entry writes
+-- read it, nor at a coupled pass that holds no element. Of a store it is what stood where the entry writes
 abbrev pub chunkRead : World → Entry → ℕ → List ℕ
-chunkRead w e i = map (fetch (reg (w .machine) i .pattern) (reg (w .machine) i .width) (w .memory)) (e .taken i)
+chunkRead w e i =
+    map (fetch (reg (w .machine) i .pattern) (reg (w .machine) i .width) (w .memory)) (heldIn (shapeOf (reg (w .machine) i)) (e .taken i))
 
 -- in each entry of a history from w
 unfoldable pub chunksRead : World → List Entry → ℕ → List (List ℕ)
@@ -96,7 +98,8 @@ between j k xs = drop j (take k xs)
 -- in each entry memory holds, at the elements that the stream t moves in it, what it held at the start
 abbrev pub Steady : Stream → World → List Entry → ℕ → Type 0
 Steady t w es i =
-    (k : ℕ) → k < length es → valuesOf t (worldAt w es k .memory) (entryAt es k .taken i) ≡ valuesOf t (w .memory) (entryAt es k .taken i)
+    (k : ℕ) → k < length es
+    → valuesOf t (worldAt w es k .memory) (elementsIn t (entryAt es k .taken i)) ≡ valuesOf t (w .memory) (elementsIn t (entryAt es k .taken i))
 
 -- where an element of a stream lies
 abbrev pub spotOf : Stream → ℕ → ℕ
@@ -114,9 +117,9 @@ StoresApart t os cs = (k : ℕ) → k < length cs → (u : Stream) → givenFor 
 
 -- ---- rows
 
--- elements of a loop one after the other, from where the stream begins, or a pass of the coupled dimension, to where one ends: one row or
--- several
+-- stops of a stream one after the other, from where it begins, or a pass of the coupled dimension, to where one ends: one row or several. A
+-- coupled pass that holds no element is a row too, of one stop
 pub record Row (s : Shape) (before row behind : List (List ℕ)) : Type 0 where
-  pub all : before ++ (row ++ behind) ≡ elements s
+  pub all : before ++ (row ++ behind) ≡ stops s
   pub begins : (before ≡ []) ⊎ PassEnds s (length before)
   pub ends : (behind ≡ []) ⊎ PassEnds s (length (before ++ row))

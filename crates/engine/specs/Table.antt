@@ -19,15 +19,15 @@ use Rattle.codec.specs.declared.header.Kind.the-variants.{Load, Store}
 use Rattle.codec.specs.declared.header.Width.the-variants.{W}
 use Rattle.codec.specs.declared.header.Coupling.the-variants.{Uncoupled}
 use Rattle.codec.specs.declared.header.Word.the-variants.{Said}
-use Rattle.engine.specs.Loops.{sizeAt, added, span, loops, elements}
-use Rattle.engine.specs.Chunks.{passes, withElements, groups, leftAfter, chunkOf, differ, height}
+use Rattle.engine.specs.Loops.{sizeAt, added, join, span, loops, elements}
+use Rattle.engine.specs.Chunks.{passStops, stopsIn, isElement, elementsAmong, nothingAt, withElements, groups, leftAfter, chunkOf, differ, height}
 use Rattle.engine.specs.Rules.{only, highs, lowOrHighFrom, product}
 use Rattle.engine.specs.Addresses.{addressUpTo, address}
 use Rattle.engine.specs.Memory.{valueAt, littleEndian, stored, lanesFrom, joined, holding, contents}
 use Rattle.engine.specs.Lanes.{lanewise}
 use Rattle.engine.specs.Calculate.{World, given, results, allInside, refusalOf, readFrom, writtenTo, memoryAfter, effect}
 use Rattle.engine.specs.Checks.{firstOf}
-use Rattle.engine.specs.Registers.{freshMachine, reg, shapeOf, nextChunk, movedBy, toCome}
+use Rattle.engine.specs.Registers.{freshMachine, reg, shapeOf, nextStops, nextChunk, movedBy, toCome}
 use Rattle.engine.specs.Configure.{whyNot, configured}
 use Rattle.engine.specs.Questions.{askFlag, askEnd}
 use Rattle.engine.specs.Run.{Progress, begun, counted, pass, passBy, repeatBy}
@@ -203,10 +203,10 @@ pub rows :
 unfolding answerOf answer heard askedFlag askedEnd register prepared addresses seen lookedAt trail trailOf watched
     copies grown triangle coupled shrunk square words bytes
     groupsAt numberAt signedOf headerSaid headerOf openAt dimensionAt modifierAt endAt runAt operationAt calculationAt
-    sizeAt added span loops elements passes withElements groups leftAfter chunkOf differ height only highs lowOrHighFrom product
+    sizeAt added join span loops elements passStops stopsIn isElement elementsAmong nothingAt withElements groups leftAfter chunkOf differ height only highs lowOrHighFrom product
     addressUpTo valueAt littleEndian stored lanesFrom joined holding lanewise
     given results allInside refusalOf readFrom writtenTo memoryAfter effect
-    firstOf nextChunk movedBy toCome whyNot configured askFlag askEnd passBy repeatBy bodyAt names operationsFrom
+    firstOf nextStops nextChunk movedBy toCome whyNot configured askFlag askEnd passBy repeatBy bodyAt names operationsFrom
 rows = (refl, refl, refl, refl, refl, refl, refl, refl, refl, refl, refl, refl, refl, refl, refl, refl, refl)
 
 -- what the reads of 40 and 39 bytes leave; the sheet of "Loop nests" adds three bytes; a loop register that the body names twice; the two
@@ -227,8 +227,8 @@ pub examples :
     × (map (λ i. askedEnd (prepared three) i) (0 ∷ 1 ∷ 2 ∷ 3 ∷ 31 ∷ 32 ∷ []) ≡ untold 5 ∷ no ∷ untold 5 ∷ yes ∷ untold 5 ∷ untold 2 ∷ [])
 unfolding answerOf answer heard askedFlag askedEnd register prepared copies grown triangle words nest twice three bytes
     groupsAt numberAt signedOf headerSaid headerOf openAt dimensionAt modifierAt endAt runAt operationAt calculationAt
-    sizeAt added span loops elements passes withElements groups leftAfter chunkOf differ height only highs lowOrHighFrom product
+    sizeAt added join span loops elements passStops stopsIn isElement elementsAmong nothingAt withElements groups leftAfter chunkOf differ height only highs lowOrHighFrom product
     addressUpTo valueAt littleEndian stored lanesFrom joined holding lanewise
     given results allInside refusalOf readFrom writtenTo memoryAfter effect
-    firstOf nextChunk movedBy toCome whyNot configured askFlag askEnd passBy repeatBy bodyAt names operationsFrom
+    firstOf nextStops nextChunk movedBy toCome whyNot configured askFlag askEnd passBy repeatBy bodyAt names operationsFrom
 examples = (refl, refl, refl, refl, refl, refl, refl, refl, refl, refl, refl, refl)

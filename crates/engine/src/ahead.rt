@@ -8,17 +8,18 @@ use codec::amounts::Bytes;
 ghost use mathlib.Core.Path.{_≡_};
 ghost use mathlib.Core.List.{[]};
 ghost use mathlib.Core.Bool.{true, false, _&&_};
-ghost use Prim.Native.Nat.{_+_, _≤_, _<_};
+ghost use Prim.Native.Nat.{ℕ, _+_, _≤_, _<_};
 ghost use lib.Dec.{ltb};
 ghost use lib.ListN.{length, set, take};
-ghost use Rattle.engine.specs.Places.{placeAt, stopsAt, Ready};
+ghost use Rattle.engine.specs.Chunks.{nothingAt};
+ghost use Rattle.engine.specs.Places.{placeAt, endsAt, Ready};
 ghost use Rattle.engine.specs.Stretches.{joinedIn, Parts};
 ghost use Rattle.engine.specs.Rows.{shapeIn, patternIn};
 ghost use Rattle.engine.specs.Runnings.{placeOf, viewOf, Near, behind, rowAhead, partOf, Looks};
 
 // A chunk that was looked at: whether there is a stream at all, how many elements, and in how many parts. A part is elements of one row,
-// three numbers of an array: the first address, the step and how many. Then where the stream stands behind the chunk: whether there is an
-// element, the height of the flags, the innermost index, and what a running register remembers of it.
+// three numbers of an array: the first address, the step and how many. Then where the stream stands behind the chunk: whether there is a
+// stop, the height of the flags, the innermost index, and what a running register remembers of it.
 pub(crate) struct Ahead {
     pub live: bool,
     pub found: bool,
@@ -32,8 +33,8 @@ pub(crate) struct Ahead {
 }
 
 // Whether a chunk ends where the walk goes on.
-fn stops(shape: &[u64; 51], found: bool, height: u64) -> bool
-    ensures { λ q. ⌜ q ≡ stopsAt (shapeIn (now (shape .entry)) .coupling) found height ⌝ }
+fn ends_chunk(shape: &[u64; 51], found: bool, height: u64) -> bool
+    ensures { λ q. ⌜ q ≡ endsAt (shapeIn (now (shape .entry)) .coupling) found height ⌝ }
 {
     if !found {
         return true;
@@ -71,9 +72,9 @@ fn along_row(through: bool, i: u64, size: u64) -> bool
 // Whether the next elements, so many, are of the present row and do not end it.
 pub(crate) fn stays(r: Running, most: usize, shape: &[u64; 51]) -> bool
     requires { ⌜ (most ≤ 64) × (r .index ≤ 4096) ⌝ }
-    ensures { λ q. ⌜ (q ≡ true → (stopsAt (shapeIn (now (shape .entry)) .coupling) true 1 ≡ false) × ((1 ≤ most) × (r .index + most < r .size))) ⌝ }
+    ensures { λ q. ⌜ (q ≡ true → (endsAt (shapeIn (now (shape .entry)) .coupling) true 1 ≡ false) × ((1 ≤ most) × (r .index + most < r .size))) ⌝ }
 {
-    if stops(shape, true, 1) {
+    if ends_chunk(shape, true, 1) {
         return false;
     }
     if most == 0 {
@@ -104,22 +105,22 @@ pub(crate) fn in_row(r: Running, n: usize, parts: &mut [[i64; 3]; 64]) -> Ahead
     }
 }
 
-// A chunk of at most so many elements, part by part. Along a row only the innermost index and the address move; the seven indices are
-// looked at where a row ends.
-pub(crate) fn across(
+// A chunk of at most so many elements, part by part, from an element on. Along a row only the innermost index and the address move; the
+// seven indices are looked at where a row ends.
+fn part_by_part(
     r: Running,
-    most: usize,
     shape: &[u64; 51],
     places: &[i64; 15],
+    most: usize,
     index: &mut [u64; 7],
     parts: &mut [[i64; 3]; 64],
 ) -> Ahead
     requires { ⌜ Ready (viewOf (patternIn (now shape) (now places)) [] (now index) r) × (placeOf (now index) r ≡ placeAt (patternIn (now shape) (now places)) (r .width) (set (now index) 0 (r .index))) ⌝ }
-    requires { ⌜ (most ≤ 64) × (length (now parts) ≡ 64) ⌝ }
+    requires { ⌜ (most ≤ 64) × (length (now parts) ≡ 64) × (nothingAt (shapeIn (now shape)) (r .moved) ≡ false) ⌝ }
     ensures { λ o. ⌜ (o .live ≡ true) × (Parts (o .parts) (now (parts .exit)) × Looks (patternIn (now (shape .entry)) (now (places .entry))) (now (index .entry)) r most (o .count) (joinedIn (take (o .parts) (now (parts .exit)))) (now (index .exit)) (behind o r)) ⌝ }
     ensures { λ _. ⌜ length (now (parts .exit)) ≡ 64 ⌝ }
 {
-    let through = !stops(shape, true, 1);
+    let through = !ends_chunk(shape, true, 1);
     let mut i = r.index;
     let mut address = r.address;
     let mut size = r.size;
@@ -139,14 +140,14 @@ pub(crate) fn across(
             continue;
         }
         index[0] = i - 1;
-        let t = leave_row(shape, places, r.width, index);
+        let t = leave_row(shape, places, r.width, index, false);
         let spot = t.spot;
         i = index[0];
         address = spot.address;
         size = spot.size;
         step = spot.step;
         height = t.height;
-        if stops(shape, t.found, height) {
+        if ends_chunk(shape, t.found, height) {
             return Ahead {
                 live: true,
                 found: t.found,
@@ -171,4 +172,48 @@ pub(crate) fn across(
         size,
         step,
     }
+}
+
+// Past a coupled pass that holds no element: no lanes.
+fn past_nothing(r: Running, shape: &[u64; 51], places: &[i64; 15], index: &mut [u64; 7]) -> Ahead
+    requires { ⌜ Ready (viewOf (patternIn (now shape) (now places)) [] (now index) r) × (nothingAt (shapeIn (now shape)) (r .moved) ≡ true) × (r .size ≡ 0) ⌝ }
+    ensures { λ o. ⌜ (o .live ≡ true) × (o .parts ≡ 0) × ((most : ℕ) → Looks (patternIn (now (shape .entry)) (now (places .entry))) (now (index .entry)) r most (o .count) [] (now (index .exit)) (behind o r)) ⌝ }
+{
+    index[0] = r.index;
+    let next = leave_row(shape, places, r.width, index, true);
+    let spot = next.spot;
+    let i = index[0];
+    let address = spot.address;
+    let step = spot.step;
+    Ahead {
+        live: true,
+        found: next.found,
+        count: 0,
+        parts: 0,
+        height: next.height,
+        index: i,
+        address,
+        size: spot.size,
+        step,
+    }
+}
+
+// A chunk of at most so many elements.
+pub(crate) fn across(
+    r: Running,
+    most: usize,
+    shape: &[u64; 51],
+    places: &[i64; 15],
+    index: &mut [u64; 7],
+    parts: &mut [[i64; 3]; 64],
+) -> Ahead
+    requires { ⌜ Ready (viewOf (patternIn (now shape) (now places)) [] (now index) r) × (placeOf (now index) r ≡ placeAt (patternIn (now shape) (now places)) (r .width) (set (now index) 0 (r .index))) ⌝ }
+    requires { ⌜ (most ≤ 64) × (length (now parts) ≡ 64) ⌝ }
+    ensures { λ o. ⌜ (o .live ≡ true) × (Parts (o .parts) (now (parts .exit)) × Looks (patternIn (now (shape .entry)) (now (places .entry))) (now (index .entry)) r most (o .count) (joinedIn (take (o .parts) (now (parts .exit)))) (now (index .exit)) (behind o r)) ⌝ }
+    ensures { λ _. ⌜ length (now (parts .exit)) ≡ 64 ⌝ }
+{
+    if r.size == 0 {
+        return past_nothing(r, shape, places, index);
+    }
+    part_by_part(r, shape, places, most, index, parts)
 }

@@ -30,7 +30,7 @@ ghost use Rattle.engine.specs.Good.{IsWidth};
 ghost use Rattle.engine.specs.Rows.{patternAt};
 ghost use Rattle.engine.specs.Memory.{lanesFrom, packed};
 ghost use Rattle.engine.specs.Stretches.{allWithin, fetchedAt, storedAt, Parts};
-ghost use Rattle.engine.specs.Runnings.{listedIn};
+ghost use Rattle.engine.specs.Runnings.{listedIn, goneBy};
 ghost use Rattle.engine.specs.Calculations.{Fit, Within, Cleared, Carries};
 
 // What the checks found: why the calculation is refused, if it is; the three operands, if it is not.
@@ -226,7 +226,7 @@ pub(crate) fn carry_out(
     memory: &mut [u8],
 ) -> Outcome
     requires { ⌜ Within task (length (now memory)) width x y z (now xs) (cond same (now xs) (now ys)) (now zs) ⌝ }
-    requires { ⌜ (x .live ≡ true → a .moved + x .count < 2 ^ 32) × ((y .live ≡ true → b .moved + y .count < 2 ^ 32) × (z .live ≡ true → d .moved + z .count < 2 ^ 32)) ⌝ }
+    requires { ⌜ (x .live ≡ true → a .moved + goneBy a (x .count) < 2 ^ 32) × ((y .live ≡ true → b .moved + goneBy b (y .count) < 2 ^ 32) × (z .live ≡ true → d .moved + goneBy d (z .count) < 2 ^ 32)) ⌝ }
     requires { ⌜ (same ≡ true → (y ≡ x) × (now lb ≡ now la)) ⌝ }
     ensures { λ r. ⌜ Carries task width (now (memory .entry)) a b d x y z (now (xs .entry)) (cond same (now (xs .entry)) (now (ys .entry))) (now (zs .entry)) (now (la .entry)) (now (lb .entry)) (now (ld .entry)) r (now (la .exit)) (now (lb .exit)) (now (ld .exit)) (now (memory .exit)) ⌝ }
 {

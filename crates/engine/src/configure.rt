@@ -19,9 +19,10 @@ use codec::refusal::Refusal;
 ghost use mathlib.Core.Path.{_≡_};
 ghost use mathlib.Core.Bool.{true};
 ghost use Prim.Native.Nat.{ℕ, _<_, _≤_};
+ghost use Rattle.codec.specs.Headers.{couplingInRange};
 ghost use Rattle.codec.specs.Operations.{operationInRange};
 ghost use Rattle.engine.specs.Checks.{firstOf};
-ghost use Rattle.engine.specs.Registers.{isConfiguring, shapeOf};
+ghost use Rattle.engine.specs.Registers.{shapeOf};
 ghost use Rattle.engine.specs.Configure.{openChecks, dimensionChecks, modifierChecks, uncovered, endChecks, opened, patterned, dimensioned, modified, owned, ended, registerOf, checksFor, applied, unlessBecause};
 ghost use Rattle.engine.specs.Good.{Ranged, Good};
 
@@ -326,7 +327,7 @@ fn apply_modifier(r: Register, m: Modifier) -> Applied
 }
 
 fn apply_end(r: Register) -> Applied
-    requires { ⌜ Ranged (shapeOf r) × (isConfiguring (r .state) ≡ true → r .moved ≡ 0) ⌝ }
+    requires { ⌜ Ranged (shapeOf r) × (couplingInRange (shapeOf r .coupling) ≡ true) ⌝ }
     ensures { λ q. ⌜ (q .why ≡ firstOf (endChecks r)) × (q .register ≡ unlessBecause (q .why) (ended r) r) ⌝ }
 {
     let why = why_end(r);

@@ -1,4 +1,4 @@
-// The highest dimension in which two elements differ: the number that gives all flags.
+// The highest dimension in which two stops differ: the number that gives all flags.
 ghost use mathlib.Core.Path.{_≡_};
 ghost use Prim.Native.Nat.{_≤_};
 ghost use Rattle.engine.specs.Chunks.{differ};

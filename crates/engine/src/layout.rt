@@ -1,6 +1,7 @@
 // The registers of a machine laid out for a run: what changes with every chunk as running registers, and beside it their lanes, indices
 // and descriptors in arrays that can be lent; and joined again behind it.
 use crate::place::Spot;
+use crate::place::holds;
 use crate::place::spot_at;
 use crate::register::Machine;
 use crate::register::Register;
@@ -18,7 +19,7 @@ ghost use Rattle.engine.specs.Rows.{patternIn, patternAt};
 ghost use Rattle.engine.specs.Runnings.{viewOf, Remembers};
 ghost use Rattle.engine.specs.Layouts.{beginning, registersIn, LaidOut};
 
-// A register at the start of a run, with what it remembers of its next element.
+// A register at the start of a run, with what it remembers of its next stop.
 fn with_spot(r: Register, s: Spot) -> Running
     ensures { λ q. ⌜ q ≡ beginning r s ⌝ }
 {
@@ -49,7 +50,8 @@ fn started(r: Register, shape: &[u64; 51], places: &[i64; 15]) -> Running
     let state = r.state;
     let index = r.index;
     if is_open(state) {
-        let here = spot_at(shape, places, r.width, &index);
+        let held = holds(shape, &index);
+        let here = spot_at(shape, places, r.width, &index, !held);
         return with_spot(r, here);
     }
     let none = Spot {

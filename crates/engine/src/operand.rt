@@ -26,7 +26,7 @@ ghost use Rattle.engine.specs.Registers.{isOpen};
 ghost use Rattle.engine.specs.Places.{Ready};
 ghost use Rattle.engine.specs.Rows.{patternIn};
 ghost use Rattle.engine.specs.Stretches.{Parts};
-ghost use Rattle.engine.specs.Runnings.{viewOf, Remembers, listedIn, filledWith, afterwards};
+ghost use Rattle.engine.specs.Runnings.{viewOf, Remembers, listedIn, filledWith, goneBy, afterwards};
 ghost use Rattle.engine.specs.Operands.{Taken, outsideOf};
 
 // A register that is no open stream: so many lanes, and nothing moves.
@@ -161,7 +161,7 @@ pub(crate) fn filled(r: Running, width: u64, n: u64) -> Running
 
 // A source after it was read: the chunk of an open stream is its content, and it moved on; any other stays.
 pub(crate) fn after_read(r: Running, o: Ahead, width: u64) -> Running
-    requires { ⌜ (o .live ≡ true → r .moved + o .count < 2 ^ 32) ⌝ }
+    requires { ⌜ (o .live ≡ true → r .moved + goneBy r (o .count) < 2 ^ 32) ⌝ }
     ensures { λ q. ⌜ q ≡ cond (o .live) (filledWith width (o .count) (afterwards o r)) (afterwards o r) ⌝ }
 {
     if !o.live {
@@ -172,7 +172,7 @@ pub(crate) fn after_read(r: Running, o: Ahead, width: u64) -> Running
 
 // A destination after it was written: a stream moved on; any other has so many lanes as its content.
 pub(crate) fn after_write(r: Running, o: Ahead, width: u64, n: usize) -> Running
-    requires { ⌜ (o .live ≡ true → r .moved + o .count < 2 ^ 32) ⌝ }
+    requires { ⌜ (o .live ≡ true → r .moved + goneBy r (o .count) < 2 ^ 32) ⌝ }
     ensures { λ q. ⌜ q ≡ cond (o .live) (afterwards o r) (filledWith width n (afterwards o r)) ⌝ }
 {
     if !o.live {

@@ -8,7 +8,7 @@ use crate::run::set_up;
 use crate::stream::Pattern;
 use crate::walk::first;
 use crate::walk::next;
-use crate::walk::nth;
+use crate::walk::nth_stop;
 use codec::amounts::Bytes;
 ghost use mathlib.Core.Path.{_≡_};
 ghost use Prim.Native.Nat.{_≤_};
@@ -82,7 +82,7 @@ fn extent_of(p: Pattern, width: u64) -> Extent
     }
 }
 
-// The loops walked from the first element to the one at a position, counted from 0.
+// The stream walked from the first stop to the one at a position, counted from 0.
 fn located_in(p: Pattern, width: u64, n: u64) -> Located
     requires { ⌜ RangedPattern p × (width ≤ 8) × Accepted (p .shape) ⌝ }
     ensures { λ r. ⌜ r ≡ locatedIn p width n ⌝ }
@@ -91,7 +91,11 @@ fn located_in(p: Pattern, width: u64, n: u64) -> Located
     let row = shape_row(shape);
     let places = place_row(p);
     let mut index: [u64; 7] = [0; 7];
-    if !nth(&row, &mut index, n) {
+    let here = nth_stop(&row, &mut index, n);
+    if !here.found {
+        return Located::Nowhere;
+    }
+    if here.empty {
         return Located::Nowhere;
     }
     Located::At(address(&row, &places, width, &index))
@@ -132,8 +136,8 @@ pub fn outline_of(sheet: &[u8], most: usize, register: usize) -> Outline
     Outline::Stream(extent_of(p, kept.width))
 }
 
-// The address of element `n`, counted from 0, of the stream of a register after at most so many operations of a sheet, from fresh
-// registers. A run is not executed.
+// The address of the element at stop `n`, counted from 0, of the stream of a register after at most so many operations of a sheet, from
+// fresh registers: none past the last stop, nor where a coupled pass holds no element. A run is not executed.
 pub fn element_of(sheet: &[u8], most: usize, register: usize, n: u64) -> Located
     ensures { λ r. ⌜ r ≡ elementOf (reg (settledOf (operationsFrom most (now (sheet .entry)) 0 freshMachine) .machine) register) n ⌝ }
 {

@@ -18,8 +18,9 @@ pub enum State {
     Finished,
 }
 
-// A vector register: its state, its content (width, valid lanes, bytes), and its stream: kind, descriptors, how many
-// elements have moved, the index of the next one, and the number that gives all flags.
+// A vector register: its state, its content (width, valid lanes, bytes), and its stream: kind, descriptors, how many stops
+// it has gone past (its elements and, if it is coupled, the passes of that dimension that hold none), the index of the next
+// one, and the number that gives all flags.
 pub struct Register {
     pub state: State,
     pub width: u64,

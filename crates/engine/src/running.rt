@@ -1,5 +1,5 @@
 // A register while a sheet runs: what changes with every chunk, with where the stream stands in its row. Its lanes, the indices of its
-// element and its descriptors are in arrays beside it, which can be lent.
+// stop and its descriptors are in arrays beside it, which can be lent.
 use crate::ahead::Ahead;
 use crate::register::State;
 use codec::amounts::Bytes;
@@ -8,10 +8,10 @@ ghost use mathlib.Core.Path.{_≡_};
 ghost use mathlib.Core.Bool.{cond};
 ghost use Prim.Native.Nat.{_+_, _<_, _^_};
 ghost use Rattle.engine.specs.declared.register.State.the-variants.{Open, Finished};
-ghost use Rattle.engine.specs.Runnings.{behind};
+ghost use Rattle.engine.specs.Runnings.{goneBy, behind};
 
 // `index` is the innermost. Of an open stream `address`, `size` and `step` are the next element's address, the innermost size of its
-// pass and the innermost stride in bytes.
+// pass and the innermost stride in bytes; where it stands at a coupled pass that holds no element, `size` is 0.
 pub(crate) struct Running {
     pub state: State,
     pub kind: Kind,
@@ -57,9 +57,19 @@ fn open_if(found: bool) -> State
     State::Finished
 }
 
+// How many stops so many lanes go past: as many, or the one coupled pass that holds no element.
+fn gone_by(r: Running, n: usize) -> u64
+    ensures { λ k. ⌜ k ≡ goneBy r n ⌝ }
+{
+    if r.size == 0 {
+        return 1;
+    }
+    n as u64
+}
+
 // Behind a chunk that was looked at.
 pub(crate) fn moved_on(r: Running, o: Ahead) -> Running
-    requires { ⌜ r .moved + o .count < 2 ^ 32 ⌝ }
+    requires { ⌜ r .moved + goneBy r (o .count) < 2 ^ 32 ⌝ }
     ensures { λ q. ⌜ q ≡ behind o r ⌝ }
 {
     let kind = r.kind;
@@ -70,7 +80,7 @@ pub(crate) fn moved_on(r: Running, o: Ahead) -> Running
         kind,
         width: r.width,
         valid: r.valid,
-        moved: r.moved + (o.count as u64),
+        moved: r.moved + gone_by(r, o.count),
         height: o.height,
         index: o.index,
         address,

@@ -30,8 +30,8 @@ a multiple of 8), and writes the memory after it to the file OUT, if one is name
 The first line is `done`, or `refused N at P`: the refusal's number and place. What it means (of 14: which
 lane of which operand lies outside memory, and at what address) and what stands at that place come next.
 Then the passes and calculations completed; a line for each register that is not fresh: its state, kind and
-width, the elements moved, the flags (a set one by its dimension, a clear one as -) and the valid lanes in
-hexadecimal; and how many bytes of the memory changed.
+width, the elements moved (a coupled pass that holds none counts as one), the flags (a set one by its
+dimension, a clear one as -) and the valid lanes in hexadecimal; and how many bytes of the memory changed.
 ",
     );
 }

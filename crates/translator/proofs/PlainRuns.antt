@@ -1,7 +1,7 @@
 -- Nests that are given, and their runs: accepted, done at every allowed vector length, with the plain loop's memory after it.
 --
 --   ready-runs              a nest whose premises hold
---   examples-run            01's nest, the triangle, three loops, one that writes over its first source
+--   examples-run            01's nest, the triangle, three loops, one that writes over its first source, rows of which one has no visit
 --   limits-run              a loop of 4,096, and 1,048,576 visits
 use Prim.Native.Nat.{ℕ}
 use mathlib.Core.Path.{_≡_, sym, _∙_, ap, subst}
@@ -15,8 +15,8 @@ use Rattle.translator.specs.Translation.{runNest}
 use Rattle.translator.specs.Acceptance.{Accepted}
 use Rattle.translator.specs.Promise3.{AllInside, Promise3}
 use Rattle.translator.specs.PremiseTests.{Ready, RunsPlain}
-use Rattle.translator.specs.Examples.{oneBytes, triangleBytes, threeBytes, three}
-use Rattle.translator.specs.ReadyNests.{one, triangle, inPlaceBytes, inPlace, examples-ready}
+use Rattle.translator.specs.Examples.{oneBytes, triangleBytes, raggedBytes, threeBytes, three}
+use Rattle.translator.specs.ReadyNests.{one, triangle, ragged, inPlaceBytes, inPlace, examples-ready}
 use Rattle.translator.specs.Limits.{wideBytes, wide, millionBytes, million, wide-ready, million-ready}
 use Rattle.translator.specs.declared.nest.Nest.{Nest}
 use Rattle.translator.specs.declared.nest.Stage.the-variants as stage
@@ -51,7 +51,8 @@ module _ (s : List ℕ) (m : Nest) (len : ℕ) (r : Ready s m len) where
         ap (λ o. o .progress .world .memory) (runs vl memory e f) ∙ promise vl memory e f .plain (inside vl memory e f) (r .premises .apart);
   }
 
--- 01's nest, the triangle, three loops, one that writes over its first source
+-- 01's nest, the triangle, three loops, one that writes over its first source, rows of 0, 1 and 2 visits and of 2, 1 and 0, coupled to the
+-- rows
 pub examples-run :
     RunsPlain oneBytes one 19
     × RunsPlain (triangleBytes 0) (triangle 0) 36
@@ -59,6 +60,8 @@ pub examples-run :
     × RunsPlain (triangleBytes 2) (triangle 2) 36
     × RunsPlain threeBytes three 510
     × RunsPlain inPlaceBytes inPlace 11
+    × RunsPlain (raggedBytes 1 0x00 0x02) (ragged 1 0x00 0x02) 30
+    × RunsPlain (raggedBytes 1 0x02 0x01) (ragged 1 0x02 0x01) 25
 examples-run = (
   ready-runs _ _ _ (examples-ready .0),
   ready-runs _ _ _ (examples-ready .1),
@@ -66,6 +69,8 @@ examples-run = (
   ready-runs _ _ _ (examples-ready .3),
   ready-runs _ _ _ (examples-ready .4),
   ready-runs _ _ _ (examples-ready .5),
+  ready-runs _ _ _ (examples-ready .6),
+  ready-runs _ _ _ (examples-ready .7),
 )
 
 -- a loop of 4,096 and 1,048,576 visits, on every memory of 65,536 bytes

@@ -9,7 +9,7 @@
 use Prim.Native.Nat.{ℕ, _/_, _≤_, _<_}
 use mathlib.Core.Path.{_≡_, refl, sym, _∙_, ap, subst}
 use mathlib.Core.Logic.{_⊎_, inl, inr}
-use mathlib.Core.List.{List, [], _∷_}
+use mathlib.Core.List.{List, [], _∷_, map}
 use mathlib.Core.Bool.{Bool, true, false, cond}
 use native.Mathlib.Omega.{arith}
 use lib.ListN.{length, getD}
@@ -19,9 +19,9 @@ use Rattle.codec.specs.declared.header.Width.{Width}
 use Rattle.codec.specs.declared.header.Width.the-variants.{B, H, W, D}
 use Rattle.codec.specs.declared.refusal.Refusal.the-variants as reason
 use Rattle.engine.specs.Configure.{Covers}
-use Rattle.engine.specs.Loops.{elements}
+use Rattle.engine.specs.Loops.{elements, join}
+use Rattle.engine.specs.Chunks.{stops, heldIn}
 use Rattle.engine.specs.Members.{Each}
-use Rattle.engine.specs.GroupLaws.{join}
 use Rattle.engine.specs.ChunkLaws.{covered}
 use Rattle.engine.specs.Registers.{reg}
 use Rattle.engine.specs.Run.{execute}
@@ -82,7 +82,7 @@ module _ (m : Nest) (ac : Accepted m) (vl : ℕ) (memory : List ℕ) (fits : Fit
   loops-on : LoopsOn 1 (one ∷ []) (s .machine)
   loops-on = record {
     load = s .streams first .is;
-    stream = open-or-finished (reg (s .machine) 1 .state) (leb (length (elements (shapeOf m))) 0) (s .streams first .state);
+    stream = open-or-finished (reg (s .machine) 1 .state) (leb (length (stops (shapeOf m))) 0) (s .streams first .state);
     which = 0;
     below = omega arith;
     named = inl refl;
@@ -128,18 +128,22 @@ module _ (m : Nest) (ac : Accepted m) (vl : ℕ) (memory : List ℕ) (fits : Fit
     is-done : run vl (sheetOf m) memory .verdict ≡ Done
     is-done = ap (λ r. r .verdict) (sheet-run .executes) ∙ chunked .done
 
-    -- its chunks are the visits'
-    chunks : Chunks m (vl / widthOf m) 0 (chunked .chunks)
+    -- the elements of its chunks
+    abbrev parts : List (List (List ℕ))
+    parts = map (heldIn (shapeOf m)) (chunked .chunks)
+
+    -- they are the visits of the nest's chunks
+    chunks : Chunks m (vl / widthOf m) 0 parts
     chunks = chunks-nest m (covers m ac) (vl / widthOf m) 0 (chunked .chunks) (chunked .are)
 
     -- it leaves the plain loop's memory
     is-plain : NoneReadInChunk m (vl / widthOf m) → run vl (sheetOf m) memory .world .memory ≡ plainLoop m memory
     is-plain apart =
-        let all : visits m ≡ join (chunked .chunks) = chunks-join m (covers m ac) (vl / widthOf m) 0 (chunked .chunks) chunks in
+        let all : visits m ≡ join parts = chunks-join m (covers m ac) (vl / widthOf m) parts chunks in
         ap (λ r. r .world .memory) (sheet-run .executes)
         ∙ chunked .memory-after
-        ∙ chunks-plain m (ac .range .loops-most) (length memory) (chunked .chunks) memory
-        (subst (Each [] (Inside m (length memory))) all inside) (apart (chunked .chunks) chunks)
+        ∙ chunks-plain m (ac .range .loops-most) (length memory) parts memory
+        (subst (Each [] (Inside m (length memory))) all inside) (apart parts chunks)
         ∙ ap (plainOver m memory) (sym all)
 
 -- ---- the promise

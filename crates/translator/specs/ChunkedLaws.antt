@@ -1,25 +1,28 @@
 -- A nest's chunks in order are the plain loop.
 --
 --   plain-append, chunks-plain     visits in two parts; chunks in order
---   chunks-nest, chunks-join       the chunks of the streams are those of the visits; joined, they are the visits
+--   chunks-nest, chunks-join       the elements of the streams' chunks are the visits of the nest's; joined, they are the visits
 --   none-in-chunk                  if no visit reads what an earlier one wrote, none reads what one of its chunk wrote
 use Prim.Native.Nat.{ℕ, zero, suc, _+_, _≤_}
 use mathlib.Core.Path.{_≡_, refl, sym, _∙_, ap, ap₂, subst}
-use mathlib.Core.List.{List, [], _∷_, _++_}
+use mathlib.Core.List.{List, [], _∷_, _++_, map}
 use native.Mathlib.Omega.{arith}
 use lib.ListN.{length, take, drop, length-append, take-append-drop, List·getD-append}
 use lib.Seq.{drop-drop, drop-length, getD-append-add}
+use Rattle.engine.specs.Loops.{join}
 use Rattle.engine.specs.Configure.{Covers}
 use Rattle.engine.specs.Members.{Each, Ordered}
-use Rattle.engine.specs.GroupLaws.{join, join-none, join-next}
+use Rattle.engine.specs.GroupLaws.{join-none, join-next}
+use Rattle.engine.specs.Chunks.{elementsAmong, heldIn, chunk}
 use Rattle.engine.specs.ChunkLaws.{groups-join, chunkOf-front}
+use Rattle.engine.specs.StopLaws.{among-append, stopsIn-elements}
 use Rattle.engine.specs.InStep.{chunksDone}
 use Rattle.engine.specs.InStep as step
 use Rattle.engine.specs.InOrderLaws.{chunks-over, chunks-next, done-none, done-next}
-use Rattle.translator.specs.Nests.{countAt, visits, visited, plainOver, couplingOf, visitGroups}
+use Rattle.translator.specs.Nests.{countAt, visits, visited, plainOver, couplingOf, nestStops, nestGroups, chunkAt, visitsAmong}
 use Rattle.translator.specs.NestSheets.{shapeOf}
 use Rattle.translator.specs.Promise3.{Inside, Apart, NoneRead, Chunks, NoneReadInChunk}
-use Rattle.translator.specs.DescriptorLaws.{visits-elements, chunk-same}
+use Rattle.translator.specs.DescriptorLaws.{stops-same, chunk-same, held-same}
 use Rattle.translator.specs.PlainLaws.{threeOf, one-chunk}
 use Rattle.translator.specs.declared.nest.Nest.{Nest}
 
@@ -63,24 +66,36 @@ chunks-plain m few len (vs ∷ gs) memory i h =
     ∙ ap (plainOver m memory) (sym (join-next vs gs))
 
 module _ (m : Nest) (covers : Covers (m .loops) (couplingOf (m .coupled))) (lanes : ℕ) where
-  -- the chunks of the streams are those of the visits
-  pub chunks-nest : (n : ℕ) (gs : List (List (List ℕ))) → step.StreamChunks (shapeOf m) lanes n gs → Chunks m lanes n gs
+  -- the elements of the chunks of the streams are the visits of the chunks of the nest
+  pub chunks-nest : (n : ℕ) (gs : List (List (List ℕ))) → step.StreamChunks (shapeOf m) lanes n gs → Chunks m lanes n (map (heldIn (shapeOf m)) gs)
   unfolding Chunks
-  chunks-nest n [] c = chunks-over (shapeOf m) lanes n c ∙ ap length (visits-elements m)
+  chunks-nest n [] c = chunks-over (shapeOf m) lanes n c ∙ ap length (stops-same m covers)
   chunks-nest n (vs ∷ gs) c =
       let h = chunks-next (shapeOf m) lanes n vs gs c in
-      (h .0 ∙ chunk-same m covers lanes n, h .1, chunks-nest (n + length vs) gs (h .2))
+      let e : length vs ≡ length (chunkAt m lanes n) = ap length (h .0 ∙ chunk-same m covers lanes n) in (
+        ap (heldIn (shapeOf m)) (h .0) ∙ held-same m covers lanes n,
+        subst (λ k. 1 ≤ k) e (h .1),
+        subst (λ k. Chunks m lanes (n + k) (map (heldIn (shapeOf m)) gs)) e (chunks-nest (n + length vs) gs (h .2)),
+      )
 
-  -- joined, they are the visits
-  pub chunks-join : (n : ℕ) (gs : List (List (List ℕ))) → Chunks m lanes n gs → drop n (visits m) ≡ join gs
-  unfolding Chunks visits
-  chunks-join n [] c = ap (λ k. drop k (visits m)) c ∙ drop-length (visits m) ∙ sym join-none
-  chunks-join n (vs ∷ gs) c =
-      let front : vs ≡ take (length vs) (drop n (visits m)) =
-      rw (← c .0, groups-join (countAt m) (m .loops) (couplingOf (m .coupled)) covers) at (chunkOf-front (visitGroups m) lanes n) in
-      sym (take-append-drop (length vs) (drop n (visits m)))
-      ∙ ap₂ _++_ (sym front) (drop-drop (length vs) n (visits m) ∙ chunks-join (n + length vs) gs (c .2))
+  -- joined, they are the visits among the stops that are left
+  visits-left : (n : ℕ) (gs : List (List (List ℕ))) → Chunks m lanes n gs → visitsAmong m (drop n (nestStops m)) ≡ join gs
+  unfolding Chunks elementsAmong
+  visits-left n [] c = ap (λ k. visitsAmong m (drop k (nestStops m))) c ∙ ap (visitsAmong m) (drop-length (nestStops m)) ∙ sym join-none
+  visits-left n (vs ∷ gs) c =
+      let left : List (List ℕ) = drop n (nestStops m) in
+      let k : ℕ = length (chunkAt m lanes n) in
+      let front : chunkAt m lanes n ≡ take k left =
+      chunkOf-front (nestGroups m) lanes n ∙ ap (λ l. take k (drop n l)) (groups-join (countAt m) (m .loops) (couplingOf (m .coupled))) in
+      ap (visitsAmong m) (sym (take-append-drop k left))
+      ∙ among-append (countAt m) (take k left) (drop k left)
+      ∙ ap₂ _++_ (sym (c .0 ∙ ap (visitsAmong m) front)) (ap (visitsAmong m) (drop-drop k n (nestStops m)) ∙ visits-left (n + k) gs (c .2))
       ∙ sym (join-next vs gs)
+
+  -- all of them joined are the visits
+  pub chunks-join : (gs : List (List (List ℕ))) → Chunks m lanes 0 gs → visits m ≡ join gs
+  unfolding visits
+  chunks-join gs c = sym (stopsIn-elements (countAt m) (m .loops) (couplingOf (m .coupled)) covers) ∙ visits-left 0 gs c
 
   -- of each of lists that are joined
   each-part : (gs : List (List (List ℕ))) → NoneRead m (join gs) → Each [] (NoneRead m) gs
@@ -90,4 +105,4 @@ module _ (m : Nest) (covers : Covers (m .loops) (couplingOf (m .coupled))) (lane
 
   -- where no visit reads what an earlier one wrote, none reads what an earlier one of its chunk wrote
   pub none-in-chunk : NoneRead m (visits m) → NoneReadInChunk m lanes
-  none-in-chunk h gs c = each-part gs (subst (NoneRead m) (chunks-join 0 gs c) h)
+  none-in-chunk h gs c = each-part gs (subst (NoneRead m) (chunks-join gs c) h)

@@ -2,7 +2,8 @@
 --
 --   couples                    the coupled loop is one of the dimensions
 --   count-size                 a loop's count is its dimension's size
---   visits-elements, chunk-same   the visits are the elements, in the same chunks
+--   visits-elements            the visits are the elements
+--   stops-same, chunk-same, held-same   the same stops, in the same chunks, of the same visits
 --   other-none, place-address  offsets and strides are as given; where an element lies
 use Prim.Native.Nat.{ℕ, zero, suc, _+_, _-_, _*_, _≤_, _<_}
 use mathlib.Core.Path.{_≡_, refl, sym, _∙_, ap, ap₂}
@@ -16,18 +17,20 @@ use borrow.Author.Tests.{le-ltb}
 use Rattle.codec.specs.declared.operation.Parameter.{Parameter}
 use Rattle.codec.specs.declared.operation.Parameter.the-variants.{Size, Offset, Stride}
 use Rattle.codec.specs.declared.operation.Behaviour.the-variants.{Add, Subtract}
-use Rattle.engine.specs.Loops.{reach, ownerIndex, added, natural, sizeAt, elements}
+use Rattle.engine.specs.Loops.{reach, ownerIndex, added, natural, sizeAt, join, elements}
 use Rattle.engine.specs.Loops
 use Rattle.engine.specs.Gains.{gain, sub-pos, added-gain}
 use Rattle.engine.specs.Registers.{noModifier}
-use Rattle.engine.specs.SameLoops.{loops-same, groups-same}
-use Rattle.engine.specs.Chunks.{chunk, chunkOf}
+use Rattle.engine.specs.SameLoops.{loops-same, groups-same, among-same}
+use Rattle.engine.specs.Chunks.{stops, heldIn, groups, chunk, chunkOf}
+use Rattle.engine.specs.ChunkLaws.{groups-join}
+use Rattle.engine.specs.StopLaws.{stop-length, chunk-each}
 use Rattle.engine.specs.Addresses.{noBytes, noElements, inBytes, addressUpTo, address}
 use Rattle.engine.specs.Configure.{uncovered, Covers}
 use Rattle.engine.specs.declared.stream.Modifier.{Modifier}
 use Rattle.engine.specs.declared.stream.Shape.{Shape}
 use Rattle.translator.specs.Fields.{termOf}
-use Rattle.translator.specs.Nests.{termsAt, countAt, visits, widthOf, placeUpTo, placeOf, couplingOf, visitGroups}
+use Rattle.translator.specs.Nests.{termsAt, countAt, visits, widthOf, placeUpTo, placeOf, couplingOf, nestStops, nestGroups, chunkAt, visitsAmong}
 use Rattle.translator.specs.NestSheets.{modifiersOf, shapeOf, patternFor}
 use Rattle.translator.specs.NestRules.{adding, subtracting, total}
 use Rattle.translator.specs.ModifierLaws.{total-gain, modifiers-kept, modifiers-each}
@@ -91,9 +94,28 @@ module _ (m : Nest) where
   unfolding visits elements
   visits-elements = loops-same (sizeAt (shapeOf m)) (countAt m) (m .loops) sizes 0 (m .loops) [] (omega arith)
 
-  -- in the same chunks
-  pub chunk-same : Covers (m .loops) (couplingOf (m .coupled)) → (lanes n : ℕ) → chunk (shapeOf m) lanes n ≡ chunkOf (visitGroups m) lanes n
-  chunk-same c lanes n = ap (λ gs. chunkOf gs lanes n) (groups-same (sizeAt (shapeOf m)) (countAt m) (m .loops) sizes (couplingOf (m .coupled)) c)
+  module _ (c : Covers (m .loops) (couplingOf (m .coupled))) where
+    -- the groups that no chunk crosses are the same
+    groups-are : groups (sizeAt (shapeOf m)) (m .loops) (couplingOf (m .coupled)) ≡ nestGroups m
+    groups-are = groups-same (sizeAt (shapeOf m)) (countAt m) (m .loops) sizes (couplingOf (m .coupled)) c
+
+    -- the stops are the same
+    pub stops-same : stops (shapeOf m) ≡ nestStops m
+    stops-same =
+        sym (groups-join (sizeAt (shapeOf m)) (m .loops) (couplingOf (m .coupled)))
+        ∙ ap join groups-are
+        ∙ groups-join (countAt m) (m .loops) (couplingOf (m .coupled))
+
+    -- in the same chunks
+    pub chunk-same : (lanes n : ℕ) → chunk (shapeOf m) lanes n ≡ chunkAt m lanes n
+    chunk-same lanes n = ap (λ gs. chunkOf gs lanes n) groups-are
+
+    -- of which the same are elements, and visits
+    pub held-same : (lanes n : ℕ) → heldIn (shapeOf m) (chunk (shapeOf m) lanes n) ≡ visitsAmong m (chunkAt m lanes n)
+    held-same lanes n =
+        among-same (sizeAt (shapeOf m)) (countAt m) (m .loops) sizes (chunk (shapeOf m) lanes n)
+        (chunk-each (shapeOf m) lanes n (λ v. length v ≡ m .loops) (stop-length (shapeOf m) c))
+        ∙ ap (visitsAmong m) (chunk-same lanes n)
 
 -- ---- places
 

@@ -1,11 +1,11 @@
 -- Nests and their sheets, computed from the definitions.
 --
---   oneBytes, threeBytes, three, triangleBytes   nests as bytes, and the numbers of one
+--   oneBytes, threeBytes, three, triangleBytes, raggedBytes   nests as bytes, and the numbers of one
 --   theNest, nestIn                   the nest that was read; the nest that bytes are
 --   sheetFor, translateAnswerFor      what translating writes, and what it answers
 --   sheets                            01's nest and its 42 bytes, 17
 --   threeLoops                        three loops with three terms: read, written, its visits, places, highs, modifiers, operations
---   chunks                            a triangle, coupled or not, and its chunks
+--   chunks                            triangles, coupled or not, and how many visits their chunks have
 --   alike                             the sheets of one coupled to its outermost loop, and of a nest without a visit
 --   threeStreams                      the streams of the sheet of three loops
 use Prim.Native.Nat.{ℕ, zero, suc, _+_}
@@ -26,7 +26,7 @@ use Rattle.codec.specs.declared.operation.Parameter.the-variants as parameter
 use Rattle.codec.specs.declared.operation.Operation.{Operation}
 use Rattle.codec.specs.declared.operation.Operation.the-variants as op
 use Rattle.engine.specs.Loops.{sizeAt, added, span, loops, elements}
-use Rattle.engine.specs.Chunks.{passes, withElements, groups, leftAfter, chunkOf}
+use Rattle.engine.specs.Chunks.{passStops, isElement, elementsAmong, withElements, groups, leftAfter, chunkOf}
 use Rattle.engine.specs.Rules.{only, highs, product}
 use Rattle.engine.specs.Rules
 use Rattle.engine.specs.Addresses.{addressUpTo, address}
@@ -36,7 +36,7 @@ use Rattle.engine.specs.Given.{patternOf, ended, givenFrom, givenFor}
 use Rattle.engine.specs.declared.check.Why.the-variants.{Nothing}
 use Rattle.engine.specs.declared.stream.Modifier.{Modifier}
 use Rattle.translator.specs.Fields.{termFields, loopFields, strideFields, noNest}
-use Rattle.translator.specs.Nests.{termsAt, countAt, visits, placeUpTo, placeOf, visitGroups}
+use Rattle.translator.specs.Nests.{termsAt, countAt, visits, placeUpTo, placeOf, chunkAt, visitsAmong}
 use Rattle.translator.specs.NestRules.{nonzeroFor, nonzeroFrom, total, highsFrom, lowOrHighFrom, highsOf}
 use Rattle.translator.specs.Reading.{Nested, nest, refused, nestAt, numbersBytes, nestBytes}
 use Rattle.translator.specs.Reading
@@ -198,22 +198,29 @@ unfoldable pub triangleBytes : ℕ → List ℕ
 triangleBytes c =
     0x00 ∷ 0x02 ∷ c ∷ 0x01 ∷ 0x01 ∷ 0x02 ∷ 0x04 ∷ 0x00 ∷ 0x02 ∷ 0x08 ∷ 0x10 ∷ 0x00 ∷ 0x02 ∷ 0x14 ∷ 0x02 ∷ 0x08 ∷ []
 
--- the chunks of a nest's visits at so many lanes, by their lengths: n of them at most
-unfoldable pub chunkLengths : List (List (List ℕ)) → ℕ → ℕ → ℕ → List ℕ
-chunkLengths gs lanes n zero = []
-chunkLengths gs lanes n (suc most) = length (chunkOf gs lanes n) ∷ chunkLengths gs lanes (n + length (chunkOf gs lanes n)) most
+-- such rows, three of them: the innermost loop has this count and this term. Count 0 and term 1 (as `00 02`): rows of 0, 1 and 2 visits;
+-- count 2 and term -1 (as `02 01`): rows of 2, 1 and 0
+unfoldable pub raggedBytes : ℕ → ℕ → ℕ → List ℕ
+raggedBytes c count term =
+    0x00 ∷ 0x02 ∷ c ∷ 0x01 ∷ count ∷ term ∷ 0x03 ∷ 0x00 ∷ 0x02 ∷ 0x08 ∷ 0x10 ∷ 0x00 ∷ 0x02 ∷ 0x14 ∷ 0x02 ∷ 0x08 ∷ []
 
--- the lengths of a nest's chunks; none if it is refused
+-- how many visits the next `most` chunks of a nest have, at so many lanes, after n stops; past its end none
+unfoldable pub chunkLengths : Nest → ℕ → ℕ → ℕ → List ℕ
+chunkLengths m lanes n zero = []
+chunkLengths m lanes n (suc most) = length (visitsAmong m (chunkAt m lanes n)) ∷ chunkLengths m lanes (n + length (chunkAt m lanes n)) most
+
+-- those of a nest from its start; none if it is refused
 unfoldable pub chunksFor : Nested → ℕ → ℕ → List ℕ
 chunksFor (refused x at) lanes most = []
-chunksFor (nest m) lanes most = chunkLengths (visitGroups m) lanes 0 most
+chunksFor (nest m) lanes most = chunkLengths m lanes 0 most
 
 -- a nest's visits; none if it is refused
 unfoldable pub visitsFor : Nested → List (List ℕ)
 visitsFor (refused x at) = []
 visitsFor (nest m) = visits m
 
--- the visits of the triangle; its chunks, uncoupled and coupled to each loop; those of the nest of three loops
+-- the visits of the triangle; its chunks, uncoupled and coupled to each loop; those of the nest of three loops; of rows of 0, 1 and 2
+-- visits and of 2, 1 and 0, coupled to the rows (02, 3/14: a row without a visit is a chunk), and uncoupled
 pub chunks :
     (visitsFor (nestAt (triangleBytes 0))
     ≡ (0 ∷ 0 ∷ [])
@@ -231,9 +238,12 @@ pub chunks :
     × (chunksFor (nestAt (triangleBytes 1)) 8 5 ≡ 1 ∷ 2 ∷ 3 ∷ 4 ∷ 0 ∷ [])
     × (chunksFor (nestAt (triangleBytes 2)) 8 3 ≡ 8 ∷ 2 ∷ 0 ∷ [])
     × (chunksFor (nest three) 4 5 ≡ 2 ∷ 4 ∷ 2 ∷ 0 ∷ 0 ∷ [])
-unfolding nestIn termsAt countAt span loops visits passes withElements groups leftAfter chunkOf
-    triangleBytes three chunkLengths chunksFor visitsFor
-chunks = (refl, refl, refl, refl, refl)
+    × (chunksFor (nestAt (raggedBytes 1 0x00 0x02)) 8 3 ≡ 0 ∷ 1 ∷ 2 ∷ [])
+    × (chunksFor (nestAt (raggedBytes 1 0x02 0x01)) 8 3 ≡ 2 ∷ 1 ∷ 0 ∷ [])
+    × (chunksFor (nestAt (raggedBytes 0 0x00 0x02)) 8 2 ≡ 3 ∷ 0 ∷ [])
+unfolding nestIn termsAt countAt span loops visits passStops isElement elementsAmong withElements groups leftAfter chunkOf
+    triangleBytes raggedBytes three chunkLengths chunksFor visitsFor
+chunks = (refl, refl, refl, refl, refl, refl, refl, refl)
 
 -- ---- sheets that another one would do as well as
 

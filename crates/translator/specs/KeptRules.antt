@@ -2,6 +2,7 @@
 --
 --   low-high-kept                the rule of 8
 --   rules-kept, rules-broken     a nest that no rule refuses; one that a rule refuses
+--   coupling-in                  a coupled loop is a coupling in range
 --   shape-checked, shape-accepted   the shape of an accepted nest passes the engine's checks
 use Prim.Native.Nat.{ℕ, zero, suc, _+_, _-_, _≤_, _<_}
 use mathlib.Core.Path.{_≡_, refl, sym, _∙_, ap, subst}
@@ -12,7 +13,8 @@ use native.Mathlib.Omega.{arith}
 use native.Mathlib.Decide.{decLt}
 use lib.ListN.{getD, drop}
 use lib.Dec.{ltb}
-use borrow.Author.Tests.{ltb-true, ltb-false, lt-ltb, le-ltb}
+use borrow.Author.Tests.{ltb-true, ltb-false, lt-ltb, le-ltb, le-leb}
+use Rattle.codec.specs.Headers.{couplingInRange}
 use Rattle.codec.specs.TestLaws.{never, or-false}
 use Rattle.codec.specs.Refusals.{is-numbered}
 use Rattle.codec.specs.declared.refusal.Refusal.{Refusal}
@@ -154,6 +156,11 @@ rules-broken m x = (λ e. go e (kept-or-broken m), broken-first m x)
 
 -- ---- accepted
 
+-- "coupled loop 0 to D (0 none)": it is a coupling in range
+pub coupling-in : (c : ℕ) → c ≤ 7 → couplingInRange (couplingOf c) ≡ true
+coupling-in zero h = refl
+coupling-in (suc c) h = rw (le-leb 1 (suc c) (omega arith), le-leb (suc c) 7 h)
+
 -- the shape of an accepted nest passes the checks of shapes
 pub shape-checked : (m : Nest) → Accepted m → checkShape (shapeOf m) ≡ Nothing
 shape-checked m a = sym (checks-shape m (a .range) (a .tidy)) ∙ rules-kept m .1 (a .few, a .low-high, a .small)
@@ -163,7 +170,14 @@ pub shape-accepted : (m : Nest) → Accepted m → Good.Accepted (shapeOf m)
 shape-accepted m a =
     let r : Ranged (shapeOf m) = shape-ranged m (a .range) (a .tidy) (a .few) in
     let p = shape-passed (shapeOf m) r (a .range .loops-least) (shape-checked m a) in
-    record { ranged = r; some = a .range .loops-least; covered = covered (m .coupled) (a .range .coupled); bounded = p .0; few = p .1 }
+    record {
+      ranged = r;
+      coupled = coupling-in (m .coupled) (omega (arith, a .range .coupled, a .range .loops-most));
+      some = a .range .loops-least;
+      covered = covered (m .coupled) (a .range .coupled);
+      bounded = p .0;
+      few = p .1;
+    }
   where
     covered : (c : ℕ) → c ≤ m .loops → uncovered (shapeOf m) (couplingOf c) ≡ false
     covered zero h = refl

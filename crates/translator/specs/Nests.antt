@@ -3,7 +3,8 @@
 --   termsAt, countAt, visits     the count of a loop at given outer indices; the visits, by the loops of streams
 --   widthOf, placeUpTo, placeOf  the width; where an element of an access lies
 --   valueOf, visited, plainOver, plainLoop   destination = operation of both sources, visit by visit
---   couplingOf, visitGroups      the coupled loop; what no chunk of visits crosses
+--   couplingOf                   the coupled loop
+--   nestStops, nestGroups, chunkAt, visitsAmong   where a nest stops; what no chunk crosses; the next chunk, and the visits in it
 --
 -- Loops are counted from 0 here, innermost first. A visit is its index vector, innermost index first. The outer indices of loop t,
 -- `outer`, are those of loops t + 1, t + 2, .., in that order.
@@ -16,7 +17,7 @@ use Rattle.codec.specs.Headers.{bytesOf}
 use Rattle.codec.specs.declared.header.Coupling.{Coupling}
 use Rattle.codec.specs.declared.header.Coupling.the-variants.{Uncoupled, Coupled}
 use Rattle.engine.specs.Loops.{natural, loops}
-use Rattle.engine.specs.Chunks.{groups}
+use Rattle.engine.specs.Chunks.{stopsIn, elementsAmong, groups, chunkOf}
 use Rattle.engine.specs.Addresses.{noElements, inBytes}
 use Rattle.engine.specs.Memory.{valueAt, littleEndian}
 use Rattle.engine.specs.Lanes.{lane}
@@ -82,6 +83,18 @@ abbrev pub couplingOf : ℕ → Coupling
 couplingOf zero = Uncoupled
 couplingOf (suc c) = Coupled (suc c)
 
--- the visits of a nest in groups that no chunk crosses: all in one, or by the passes of the coupled loop
-abbrev pub visitGroups : Nest → List (List (List ℕ))
-visitGroups m = groups (countAt m) (m .loops) (couplingOf (m .coupled))
+-- where a nest stops: at each visit, and (02, 3/14) once in each pass of the coupled loop that holds none
+abbrev pub nestStops : Nest → List (List ℕ)
+nestStops m = stopsIn (countAt m) (m .loops) (couplingOf (m .coupled))
+
+-- these stops in groups that no chunk crosses: all in one, or by the passes of the coupled loop
+abbrev pub nestGroups : Nest → List (List (List ℕ))
+nestGroups m = groups (countAt m) (m .loops) (couplingOf (m .coupled))
+
+-- the stops of the next chunk at so many lanes, after n stops: as many as there are lanes, fewer at the end of the group
+abbrev pub chunkAt : Nest → ℕ → ℕ → List (List ℕ)
+chunkAt m lanes n = chunkOf (nestGroups m) lanes n
+
+-- the visits among stops: those at which every loop stands below its count
+abbrev pub visitsAmong : Nest → List (List ℕ) → List (List ℕ)
+visitsAmong m vs = elementsAmong (countAt m) vs

@@ -17,12 +17,11 @@ use lib.ListN.{length, getD, take, drop}
 use lib.IntN.{ℤ, pos, _+ℤ_}
 use lib.Signed.{_≤ℤ_}
 use Rattle.codec.specs.NumberLaws.{areBytes}
-use Rattle.engine.specs.Chunks.{chunkOf}
 use Rattle.engine.specs.Sheets.{run}
 use Rattle.engine.specs.Allowed.{Fits, Lies}
 use Rattle.engine.specs.LoopLaws.{Within, Before}
 use Rattle.engine.specs.declared.run.Verdict.the-variants.{Done}
-use Rattle.translator.specs.Nests.{countAt, visits, widthOf, placeOf, plainLoop, visitGroups}
+use Rattle.translator.specs.Nests.{countAt, visits, widthOf, placeOf, plainLoop, nestStops, chunkAt, visitsAmong}
 use Rattle.translator.specs.Reading.{nest, nestBytes}
 use Rattle.translator.specs.NestSheets.{sheetOf}
 use Rattle.translator.specs.Translation.{translated, roomAfter, runNest, sheet, refusal, asTranslated}
@@ -70,10 +69,11 @@ Apart m u v = (x : ℕ) → Writes m u x → Reads m v x → ⊥
 abbrev pub NoneRead : Nest → List (List ℕ) → Type 0
 NoneRead m vs = (i j : ℕ) → i < j → j < length vs → Apart m (getD vs i []) (getD vs j [])
 
--- the chunks of the visits, from visit n on, up to the last
+-- the visits of each chunk, chunk by chunk, from stop n on, up to the last: none in that of a pass that holds none
 unfoldable pub Chunks : Nest → ℕ → ℕ → List (List (List ℕ)) → Type 0
-Chunks m lanes n [] = n ≡ length (visits m)
-Chunks m lanes n (vs ∷ gs) = (vs ≡ chunkOf (visitGroups m) lanes n) × (1 ≤ length vs) × Chunks m lanes (n + length vs) gs
+Chunks m lanes n [] = n ≡ length (nestStops m)
+Chunks m lanes n (vs ∷ gs) =
+    (vs ≡ visitsAmong m (chunkAt m lanes n)) × (1 ≤ length (chunkAt m lanes n)) × Chunks m lanes (n + length (chunkAt m lanes n)) gs
 
 -- the weaker premise: no visit reads a byte that an earlier one of the same chunk wrote
 abbrev pub NoneReadInChunk : Nest → ℕ → Type 0

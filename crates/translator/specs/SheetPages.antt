@@ -19,7 +19,6 @@ use lib.Signed.{_≤ℤ_, nonNeg}
 use borrow.Author.Tests.{le-leb, le-ltb, ne-eqb}
 use Rattle.codec.specs.Operations.{operationInRange, operationBytes, calculationInRange, calculationBytes, actionCode, isBase, bytesOfAll}
 use Rattle.codec.specs.BytewiseLaws.{all-append}
-use Rattle.codec.specs.Headers.{couplingInRange}
 use Rattle.codec.specs.Writing.{writtenTo, bytesAfter}
 use Rattle.codec.specs.declared.header.Kind.{Kind}
 use Rattle.codec.specs.declared.header.Kind.the-variants.{Load, Store}
@@ -30,10 +29,10 @@ use Rattle.engine.specs.Addresses.{noElements}
 use Rattle.engine.specs.AllowedLaws.{test-plain}
 use Rattle.engine.proofs.ByteSteps.{sets-append}
 use Rattle.translator.specs.Fields.{termOf}
-use Rattle.translator.specs.Nests.{couplingOf}
 use Rattle.translator.specs.NestSheets.{modifierOf, modifiersAt, modifierOp, dimensionOf, dimensionOps, streamOps, sheetOps, runOp, calculationOf, sheetOf}
 use Rattle.translator.specs.Acceptance.{AccessInRange, InRange, Accepted}
 use Rattle.translator.specs.NestWritten.{action-small}
+use Rattle.translator.specs.KeptRules.{coupling-in}
 use Rattle.translator.specs.RoomLaws.{sheet-most}
 use Rattle.translator.specs.Pages.{Blank, putOne, putAll, putCalculation, SheetPage}
 use Rattle.translator.specs.declared.nest.Access.{Access}
@@ -94,11 +93,6 @@ writable-then (o ∷ os) ps v w = (v .0, writable-then os ps (v .1) w)
 base-in : (z : ℤ) → pos 0 ≤ℤ z → z ≤ℤ pos 1048576 → (nonNeg z && isBase (natAbs z)) ≡ true
 base-in (pos n) h k = test-plain (leb n 1048576) .1 (k .le)
 base-in (negsuc n) h k = absurd (h .le)
-
--- "coupled loop 0 to D (0 none)": it is a coupling in range
-coupling-in : (c : ℕ) → c ≤ 7 → couplingInRange (couplingOf c) ≡ true
-coupling-in zero h = refl
-coupling-in (suc c) h = rw (le-leb 1 (suc c) (omega arith), le-leb (suc c) 7 h)
 
 module _ (m : Nest) (r : InRange m) (register : ℕ) (small : register ≤ 31) where
   -- the modifier of a term can be written

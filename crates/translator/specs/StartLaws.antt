@@ -53,7 +53,7 @@ kindFor destination = Store
 abbrev pub body : Nest → ℕ → Placed
 body m place = record { place = place; calculation = calculationOf m }
 
--- an access streams in a register, by the nest's pattern, from its first element on
+-- an access streams in a register, by the nest's pattern, from its start
 abbrev pub Streams : Nest → Role → Machine → Type 0
 Streams m a n = Streaming (patternFor m (accessOf a m)) (kindFor a) (widthOf m) 0 (reg n (registerFor a))
 

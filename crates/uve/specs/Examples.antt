@@ -13,15 +13,15 @@ use lib.ListN.{replicate, take, drop}
 use Rattle.codec.specs.Numbers.{groupsAt, numberAt, signedOf}
 use Rattle.codec.specs.Headers.{headerSaid, headerOf}
 use Rattle.codec.specs.Operations.{openAt, dimensionAt, modifierAt, endAt, runAt, operationAt, calculationAt}
-use Rattle.engine.specs.Loops.{sizeAt, added, span, loops, elements}
-use Rattle.engine.specs.Chunks.{passes, withElements, groups, leftAfter, chunkOf, differ, height}
+use Rattle.engine.specs.Loops.{sizeAt, added, join, span, loops}
+use Rattle.engine.specs.Chunks.{passStops, stopsIn, isElement, elementsAmong, nothingAt, withElements, groups, leftAfter, chunkOf, differ, height}
 use Rattle.engine.specs.Rules.{only, highs, lowOrHighFrom, product}
 use Rattle.engine.specs.Addresses.{addressUpTo}
 use Rattle.engine.specs.Memory.{valueAt, littleEndian, stored, lanesFrom, joined, holding}
 use Rattle.engine.specs.Lanes.{lanewise}
 use Rattle.engine.specs.Calculate.{given, results, allInside, laneOutside, refusalOf, readFrom, writtenTo, memoryAfter, effect}
 use Rattle.engine.specs.Checks.{firstOf}
-use Rattle.engine.specs.Registers.{nextChunk, movedBy, toCome}
+use Rattle.engine.specs.Registers.{nextStops, nextChunk, movedBy, toCome}
 use Rattle.engine.specs.Configure.{whyNot, configured}
 use Rattle.engine.specs.Run.{passBy, repeatBy}
 use Rattle.engine.specs.Sheets.{bodyAt, names, operationsFrom, run}
@@ -43,10 +43,11 @@ registerAt report i = take 7 (drop (8 + 14 * i) report)
 unfoldable pub reportFor : ℕ → List ℕ → List ℕ → List ℕ
 unfolding headNumbers flagsFrom registerNumbers registersFrom reportOf
     groupsAt numberAt signedOf headerSaid headerOf openAt dimensionAt modifierAt endAt runAt operationAt calculationAt
-    sizeAt added span loops elements passes withElements groups leftAfter chunkOf differ height only highs lowOrHighFrom product
+    sizeAt added join span loops passStops stopsIn isElement elementsAmong nothingAt withElements groups leftAfter chunkOf differ height only highs
+    lowOrHighFrom product
     addressUpTo valueAt littleEndian stored lanesFrom joined holding lanewise
     given results allInside laneOutside refusalOf readFrom writtenTo memoryAfter effect
-    firstOf nextChunk movedBy toCome whyNot configured passBy repeatBy bodyAt names operationsFrom
+    firstOf nextStops nextChunk movedBy toCome whyNot configured passBy repeatBy bodyAt names operationsFrom
 reportFor vl sheet memory = reportOf (run vl sheet memory)
 
 -- "an empty sheet too"; 15; "Words, base 4, size 5, stride 2, length 16": done with 40 bytes of memory, refused with 14 with 39

@@ -1,6 +1,6 @@
 -- Where the lane lies that refusal 14 names.
 --   setUp s                    == the registers that the operations of a sheet set up
---   elementAhead s m i lane    == where the element lies so many behind those that have moved of a register's stream
+--   elementAhead s m i lane    == where the element lies at the stop so many behind those that a register's stream has gone past
 --   laneAt s m place lane role == where a lane lies that the calculation at a place of a sheet would move
 use Prim.Native.Nat.{ℕ, _+_, _%_, _^_}
 use mathlib.Core.List.{List}
@@ -20,7 +20,7 @@ use Rattle.engine.specs.declared.outline.Located.the-variants.{Nowhere}
 abbrev pub setUp : List ℕ → Machine
 setUp s = prepare s freshMachine .machine
 
--- where the element lies so many behind those that have moved of a register's stream, if there is one
+-- where the element lies at the stop so many behind those that a register's stream has gone past, if there is one
 abbrev pub elementAhead : List ℕ → Machine → ℕ → ℕ → Located
 elementAhead s m i lane = elementOf (reg (setUp s) i) ((reg m i .moved + lane) % 2 ^ 64)
 

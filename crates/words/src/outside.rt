@@ -26,7 +26,7 @@ fn named(c: Calculation, role: Role) -> usize
     }
 }
 
-// How many elements of a register's stream have moved; 0 if there is no such register.
+// How many stops a register's stream has gone past; 0 if there is no such register.
 fn moved(m: Machine, register: usize) -> u64
     ensures { λ n. ⌜ n ≡ reg m register .moved ⌝ }
 {
@@ -37,8 +37,8 @@ fn moved(m: Machine, register: usize) -> u64
     r.moved
 }
 
-// Where a lane lies that the calculation at a place of a sheet would move: the element so many behind those that have moved of the
-// operand's stream.
+// Where a lane lies that the calculation at a place of a sheet would move: the element at the stop so many behind those that the
+// operand's stream has gone past.
 fn lane_at(sheet: &[u8], m: Machine, place: usize, lane: usize, role: Role) -> Located
     ensures { λ r. ⌜ r ≡ laneAt (now (sheet .entry)) m place lane role ⌝ }
 {

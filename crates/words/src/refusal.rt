@@ -86,7 +86,9 @@ fn hint(r: Refusal) {
         ),
         Refusal::LoopRegister => say(b"end its stream before the run, and read it in the body"),
         Refusal::NoRoom => say(b"1,024 bytes always suffice"),
-        Refusal::NoLanes => say(b"a fresh register has no lanes; only the sum of none is told: 0"),
+        Refusal::NoLanes => say(
+            b"a fresh register has no lanes, nor has a coupled pass without elements; only the sum of none is told: 0",
+        ),
     }
 }
 

@@ -122,7 +122,7 @@ fn content(lanes: [u8; 64], width: u64, valid: u64) {
     say(b"\n");
 }
 
-// Writes a register's line: its name and state, and of a stream the kind; the width; of a stream the elements moved and the flags;
+// Writes a register's line: its name and state, and of a stream the kind; the width; of a stream the stops gone past and the flags;
 // the content.
 fn line(m: Machine, i: usize, r: Register) {
     let s = r.state;

@@ -93,7 +93,8 @@ impl Machine {
         }
         let folds = c.operation >= 8;
         let taken = if folds { 1 } else { n };
-        let writes = stores && taken > 0;
+        // No lanes are written where there is nothing to write to: the store stream moves past its empty pass.
+        let writes = stores && (taken > 0 || self.registers[d].stream.walk.empty);
         if writes {
             // No further than what is taken: what lies behind is looked at when it is reached.
             self.registers[d].stream.look(taken, &mut self.destination);

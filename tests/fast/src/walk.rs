@@ -12,9 +12,12 @@ pub struct Modifier {
     pub step: i64,
 }
 
-/// Where the next element is. `size`, `offset` and `step` are the values under the present indices, offset and step in bytes.
+/// Where the next element is, or the pass of the coupled dimension that has none. `size`, `offset` and `step` are the values under the
+/// present indices, offset and step in bytes.
 #[derive(Clone, Copy)]
 pub struct Walk {
+    /// At a coupled pass without elements, its loops gone through and their modifiers undone.
+    pub empty: bool,
     pub index: [i32; DIMENSIONS],
     pub size: [i32; DIMENSIONS],
     pub offset: [i64; DIMENSIONS],
@@ -55,7 +58,7 @@ pub struct Ahead {
     highest: usize,
 }
 
-pub const STILL: Walk = Walk { index: [0; 7], size: [0; 7], offset: [0; 7], step: [0; 7], at: [0; 8] };
+pub const STILL: Walk = Walk { empty: false, index: [0; 7], size: [0; 7], offset: [0; 7], step: [0; 7], at: [0; 8] };
 
 impl Ahead {
     pub fn none() -> Ahead {
@@ -110,14 +113,24 @@ impl Stream {
         }
     }
 
-    /// Goes to the next element once the pass of dimension 0 is at its end (`steps`), or to the first of all. Answers the highest
-    /// dimension that stepped, or the number of dimensions if there is no element.
+    /// Goes to the next element, or to the next coupled pass that has none, once the pass of dimension 0 is at its end or there is none
+    /// (`steps`), or to the first of all. Answers the highest dimension that stepped, or the number of dimensions if there is no such
+    /// place.
     fn seek(&self, walk: &mut Walk, mut steps: bool) -> usize {
         let dimensions = self.dimensions as usize;
-        let mut d = if steps { 1 } else { dimensions - 1 };
+        let coupled = self.coupled as usize;
+        let mut d = match (steps, walk.empty) {
+            (false, _) => dimensions - 1,
+            (true, false) => 1,
+            (true, true) => coupled,
+        };
+        walk.empty = false;
+        // Whether a coupled pass was begun on the way: if it is gone through without an element, the way ends there.
+        let mut begun = false;
         let mut highest = 0;
         loop {
             if !steps {
+                begun |= d + 1 == coupled;
                 walk.index[d] = 0;
                 walk.at[d] = walk.at[d + 1] + walk.offset[d];
                 if walk.size[d] <= 0 {
@@ -128,6 +141,9 @@ impl Stream {
                 } else {
                     d -= 1;
                 }
+            } else if begun && d == coupled {
+                walk.empty = true;
+                return highest;
             } else if d == dimensions {
                 return dimensions;
             } else if walk.index[d] + 1 < walk.size[d] {
@@ -144,7 +160,7 @@ impl Stream {
         }
     }
 
-    /// Goes to the first element; answers whether there is one.
+    /// Goes to the first element, or coupled pass without one; answers whether there is such.
     pub fn begin(&mut self, base: i64) -> bool {
         let dimensions = self.dimensions as usize;
         let mut walk = self.walk;
@@ -156,6 +172,10 @@ impl Stream {
 
     /// Looks at the next elements, up to `want` and no further than the end of the stream or of the coupled pass.
     pub fn look(&self, want: usize, ahead: &mut Ahead) {
+        if self.walk.empty {
+            (ahead.n, ahead.count, ahead.beyond) = (0, 0, false);
+            return;
+        }
         let left = (self.walk.size[0] - self.walk.index[0]) as usize;
         ahead.beyond = left < want && self.coupled != 1;
         if ahead.beyond {
@@ -186,7 +206,7 @@ impl Stream {
         }
     }
 
-    /// Moves over the elements looked at; answers whether the stream goes on.
+    /// Moves over the elements looked at, or past the empty pass; answers whether the stream goes on.
     pub fn advance(&mut self, ahead: &Ahead) -> bool {
         let highest = if ahead.beyond {
             self.walk = ahead.walk;
@@ -194,7 +214,7 @@ impl Stream {
         } else {
             self.walk.index[0] += ahead.n as i32;
             self.walk.at[0] += ahead.n as i64 * self.walk.step[0];
-            if self.walk.index[0] < self.walk.size[0] {
+            if !self.walk.empty && self.walk.index[0] < self.walk.size[0] {
                 0
             } else {
                 let mut walk = self.walk;

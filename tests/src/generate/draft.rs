@@ -271,7 +271,7 @@ impl Draft {
         }
     }
 
-    /// A stream without an element: finished at end.
+    /// A stream without an element: finished at end or, if coupled, one of empty passes.
     fn empty(&mut self, at: usize) {
         let plan = &mut self.plans[at];
         plan.modifiers.retain(|modifier| modifier.parameter != Parameter::Size);
@@ -347,6 +347,7 @@ impl Draft {
         let mut finished = self.plans[random.place(self.plans.len())].clone();
         finished.register = free[0];
         finished.kind = random.pick(&[Kind::Load, Kind::Store]);
+        finished.coupled = 0;
         self.plans.push(finished);
         self.empty(self.plans.len() - 1);
         let mut names: Vec<u64> = self.plans.iter().map(|plan| plan.register).collect();
@@ -359,13 +360,13 @@ impl Draft {
         self.body.truncate(16);
     }
 
-    /// Before a stream, its register has another without elements: opened, finished, and opened anew.
+    /// Before a stream, its register has another without elements: opened, finished, and opened anew; or coupled, and so still open.
     fn open_anew(&mut self, random: &mut Random, at: usize) {
         let mut before = self.plans[at].clone();
         before.modifiers.clear();
         before.dimensions.truncate(random.range(1, 2) as usize);
         before.dimensions[0].size = 0;
-        before.coupled = 0;
+        before.coupled = random.pick(&[0, 0, 0, 1]);
         before.code = random.below(4);
         self.plans.insert(at, before);
     }

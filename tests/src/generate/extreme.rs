@@ -113,7 +113,7 @@ fn edge_shape(random: &mut Random) -> Shape {
     Shape { sizes, modifiers }
 }
 
-/// One or two streams of such shapes, and a run that ends soon because memory does.
+/// One or two streams of such shapes, and a run that ends soon because memory does, unless all its chunks are empty.
 fn shapes(random: &mut Random) -> Made {
     let shape = edge_shape(random);
     let depth = shape.sizes.len() as u64;

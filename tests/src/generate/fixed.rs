@@ -1,10 +1,15 @@
 //! Inputs that are tried on every run, whatever the seed: the text's examples over many memories and vector lengths, folds of all widths,
-//! the sheets of the mark, and the longest run.
+//! rows with nothing in them, the sheets of the mark, and the longest runs.
 
 use super::nests::NestInput;
 use super::{written, SheetInput, Style};
+use crate::hex::bytes_of;
 use crate::mark;
 use crate::numbers::unsigned;
+
+/// Row sums of a triangle that shrinks to nothing, and the image that it is run on.
+pub const EMPTY_ROWS: &str = include_str!("../../../examples/empty-rows.hex");
+pub const IMAGE: &str = include_str!("../../../examples/image.hex");
 
 fn input(numbers: Vec<u64>, vl: u64, memory: usize) -> SheetInput {
     let memory = (0..memory).map(|i| (7 * i + 3) as u8).collect();
@@ -129,13 +134,78 @@ fn folds_misread() -> Vec<SheetInput> {
     lines.map(|line| input([&load[..], &[5, 1, 1], &line].concat(), 8, 8)).collect()
 }
 
+/// A stream of a shape: each dimension a size and a stride, with the numbers of a modifier behind some.
+fn shaped(register: u64, word: u64, base: u64, shape: &[&[u64]]) -> Vec<u64> {
+    let mut numbers = vec![1, word + (register << 7), base];
+    for dimension in shape {
+        numbers.extend([2, register, 0, dimension[0], unsigned(dimension[1] as i64)]);
+        if dimension.len() > 2 {
+            numbers.extend([&[3, register], &dimension[2..]].concat());
+        }
+    }
+    numbers.extend([4, register]);
+    numbers
+}
+
+/// Rows that shrink to nothing, that grow from it, that do so two at a time, passes of fewer and fewer rows, and no element at all: two
+/// load streams and a store stream of that shape, coupled to each dimension or to none, and a store stream of single elements. They are
+/// copied, added, folded into both stores; and what has no lanes is stored among it.
+fn ragged(vl: u64) -> Vec<SheetInput> {
+    // A modifier: target, parameter, behaviour, displacement.
+    let shapes: [[&[u64]; 3]; 5] = [
+        [&[3, 1], &[4, 4, 0, 0, 1, 1], &[2, 16]],
+        [&[0, 1], &[4, 4, 0, 0, 0, 1], &[2, 16]],
+        [&[2, 1], &[2, 4], &[3, 8, 0, 0, 1, 1]],
+        [&[3, 1], &[3, 4], &[4, 8, 1, 0, 1, 1]],
+        [&[2, 1], &[0, 4], &[2, 8]],
+    ];
+    let mut bodies: Vec<Vec<u64>> = vec![
+        vec![0, 3, 1, 1],
+        vec![1, 3, 1, 2],
+        vec![0, 5, 1, 1, 0, 3, 5, 5],
+        vec![0, 3, 9, 9, 0, 3, 1, 1],
+        vec![0, 3, 1, 1, 0, 3, 9, 9],
+        vec![8, 5, 1, 1, 0, 3, 5, 5],
+        vec![0, 5, 1, 1, 1, 3, 5, 2],
+        vec![1, 5, 1, 9, 0, 3, 5, 5],
+    ];
+    for fold in 8..=11 {
+        bodies.extend([vec![fold, 4, 1, 1], vec![fold, 3, 1, 1], vec![fold, 5, 1, 1, 0, 4, 5, 5]]);
+    }
+    let code = vl / 8 % 4;
+    let mut inputs = Vec::new();
+    for (shape, coupled) in shapes.iter().flat_map(|shape| (0..=3).map(move |coupled| (shape, coupled))) {
+        let coupling = if coupled == 0 { 0 } else { (8 + coupled - 1) << 27 };
+        let (load, store) = (0x400b + (code << 12) + coupling, 0x0b + (code << 12) + coupling);
+        let streams = [
+            shaped(1, load, 0, shape),
+            shaped(2, load, 1, shape),
+            shaped(3, store, 40 << code, shape),
+            shaped(4, 0x0b + (code << 12), 80 << code, &[&[40, 1]]),
+        ];
+        for body in &bodies {
+            for memory in [120, 84, 50, 0] {
+                let run = [&[5, 1, body.len() as u64 / 4], &body[..]].concat();
+                inputs.push(input([streams.concat(), run].concat(), vl, memory << code));
+            }
+        }
+    }
+    inputs
+}
+
 /// 1,048,576 passes: elements of 8 bytes, one a chunk, all at one place.
 fn longest() -> Vec<u64> {
     vec![1, 0x708b, 0, 2, 1, 0, 4_096, 0, 2, 1, 0, 256, 0, 4, 1, 5, 1, 1, 0, 2, 1, 1]
 }
 
+/// As many chunks of no lanes, each summed up.
+fn longest_of_nothing() -> Vec<u64> {
+    vec![1, 0x4000_408b, 0, 2, 1, 0, 0, 0, 2, 1, 0, 4_096, 0, 2, 1, 0, 256, 0, 4, 1, 5, 1, 1, 8, 2, 1, 1]
+}
+
 pub fn sheets() -> Vec<SheetInput> {
-    let mut inputs = vec![input(longest(), 8, 8), input(vec![], 8, 0), input(vec![1, 0x5608b, 0, 1, 0x6218b, 0], 8, 0)];
+    let mut inputs = vec![input(longest(), 8, 8), input(longest_of_nothing(), 8, 0)];
+    inputs.extend([input(vec![], 8, 0), input(vec![1, 0x5608b, 0, 1, 0x6218b, 0], 8, 0)]);
     for vl in (8..=64).step_by(8) {
         for memory in 0..=30 {
             for coupling in [0, 1 << 30, 9 << 27, 10 << 27] {
@@ -147,9 +217,14 @@ pub fn sheets() -> Vec<SheetInput> {
         }
         inputs.extend(outside(vl));
         inputs.extend(folds(vl));
+        inputs.extend(ragged(vl));
     }
     for (job, vl) in mark::JOBS.iter().flat_map(|job| mark::VECTOR_LENGTHS.map(|vl| (job, vl))) {
         inputs.push(SheetInput { style: Style::Valid, sheet: job.sheet(), vl, memory: job.memory(&mark::mark()) });
+    }
+    for vl in mark::VECTOR_LENGTHS {
+        let (sheet, memory) = (bytes_of(EMPTY_ROWS), bytes_of(IMAGE));
+        inputs.push(SheetInput { style: Style::Valid, sheet, vl, memory });
     }
     inputs.extend(folds_of_nothing());
     inputs.extend(folds_misread());

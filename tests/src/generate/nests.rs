@@ -2,7 +2,7 @@
 
 use super::damage::{bad_number, bytes_damaged};
 use super::plan::Shape;
-use super::{vector_length, Style};
+use super::{ragged, vector_length, Style};
 use crate::nest::{read, Loop, Nest, Operand};
 use crate::numbers::{put, unsigned};
 use crate::random::Random;
@@ -67,7 +67,8 @@ fn written(numbers: &[u64]) -> Vec<u8> {
 
 /// A nest that is accepted, its bases still to be chosen.
 fn drafted(random: &mut Random) -> Nest {
-    let shape = Shape::small(random);
+    let ragged = random.one_in(6);
+    let (shape, coupled) = if ragged { ragged::shape(random) } else { (Shape::small(random), 0) };
     let depth = shape.sizes.len();
     let mut loops: Vec<Loop> = (1..=depth).map(|this| Loop { number: shape.sizes[this - 1], terms: vec![0; depth - this] }).collect();
     for modifier in &shape.modifiers {
@@ -75,7 +76,11 @@ fn drafted(random: &mut Random) -> Nest {
         loops[modifier.target - 1].terms[modifier.owner - modifier.target - 1] += term;
     }
     let operands = (0..3).map(|_| Operand { base: 0, strides: strides(random, &shape) }).collect();
-    let coupled = if random.one_in(2) { 0 } else { random.range(1, depth as i64) as usize };
+    let coupled = match (ragged, random.one_in(2)) {
+        (true, _) => coupled as usize,
+        (false, true) => 0,
+        (false, false) => random.range(1, depth as i64) as usize,
+    };
     Nest { width: 1 << random.below(4), coupled, operation: random.range(1, 7) as u64, loops, operands }
 }
 

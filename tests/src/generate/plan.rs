@@ -63,9 +63,10 @@ impl Plan {
         stream
     }
 
-    /// The addresses of the first elements; none if the stream will be refused.
+    /// The addresses of the first elements; none if the stream will be refused for its sizes.
     fn addresses(&self) -> Vec<i64> {
-        let mut stream = self.stream();
+        // The elements are the same whatever it is coupled to, and that dimension may be missing.
+        let mut stream = Stream { coupled: 0, ..self.stream() };
         if stream.dimensions.len() > 7 || stream.bounds().is_err() {
             return Vec::new();
         }
@@ -191,6 +192,14 @@ impl Shape {
         let mut stream = self.bare();
         stream.list(2_000);
         stream.elements.len()
+    }
+
+    /// How many chunks there can be at most, counted up to some thousands: one for each element and, of a coupled stream, one for each
+    /// pass without.
+    pub fn chunks(&self, coupled: u64) -> usize {
+        let mut stream = Stream { coupled: coupled as usize, ..self.bare() };
+        stream.list(2_000);
+        stream.elements.len() + stream.passes.iter().filter(|pass| pass.elements.is_empty()).count()
     }
 
     /// The largest count that the sizes could come to.

@@ -4,7 +4,7 @@
 use super::body::{Cast, Line};
 use super::draft::Draft;
 use super::plan::{Plan, Shape};
-use super::vector_length;
+use super::{ragged, vector_length};
 use crate::random::Random;
 use crate::stream::{Dimension, Kind};
 
@@ -16,9 +16,10 @@ struct Parts {
 }
 
 pub fn draft(random: &mut Random) -> Draft {
-    let shape = Shape::small(random);
+    let ragged = random.one_in(4);
+    let (shape, coupled) = if ragged { ragged::shape(random) } else { (Shape::small(random), 0) };
     let depth = shape.sizes.len() as u64;
-    let coupled = random.below(depth + 1);
+    let coupled = if ragged { coupled } else { random.below(depth + 1) };
     let mut registers: Vec<u64> = (0..32).collect();
     random.shuffle(&mut registers);
     let code = random.below(4);
@@ -30,8 +31,7 @@ pub fn draft(random: &mut Random) -> Draft {
         10 => 7,
         _ => random.range(1, 7) as u64,
     };
-    // There are no more chunks than elements.
-    let chunks = shape.elements().clamp(1, 4_096) as i64;
+    let chunks = shape.chunks(coupled).clamp(1, 4_096) as i64;
     let parts = if coupled > 0 && coupled < depth && !random.one_in(3) {
         of_rows(image, &shape, &registers, [fold, join], chunks)
     } else {

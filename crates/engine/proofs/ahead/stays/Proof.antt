@@ -12,8 +12,8 @@ some : (n : ℕ) → (n ≡ 0 → ⊥) → 1 ≤ n
 some zero e = absurd (e refl)
 some (suc n) e = omega arith
 
-stops-requires : tie.Need-stops-requires
-stops-requires c κs = search needs
+ends-chunk-requires : tie.Need-ends-chunk-requires
+ends-chunk-requires c κs = search needs
 
 returns : tie.Need-returns
 returns c = λ e. never e
@@ -25,7 +25,7 @@ add-result : tie.Need-add-result
 add-result c = search needs
 
 returns-3 : tie.Need-returns-3
-returns-3 c = λ e. (sym (c .before .before .before .before .stops .ensures) ∙ c .before .before .before .if1 .left, (some _ (c .before .before .if2 .left), ltb-true _ _ e))
+returns-3 c = λ e. (sym (c .before .before .before .before .ends-chunk .ensures) ∙ c .before .before .before .if1 .left, (some _ (c .before .before .if2 .left), ltb-true _ _ e))
 
 pub stays-spec : {M : Type 1} → statement M
-stays-spec = tie.close (tie.spec stops-requires returns returns-2 add-result returns-3)
+stays-spec = tie.close (tie.spec ends-chunk-requires returns returns-2 add-result returns-3)

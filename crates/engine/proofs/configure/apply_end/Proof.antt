@@ -1,6 +1,6 @@
 -- `configure::apply_end` meets its contract: the refusal is that of the checks, and only where there is none is the register changed.
 use mathlib.Core.Path.{refl, sym, _∙_}
-use Rattle.engine.specs.GoodLaws.{end-accepted, end-configuring}
+use Rattle.engine.specs.GoodLaws.{end-accepted}
 use borrow.Author.Needs.{needs}
 use Rattle.engine.proofs.configure.apply_end.Statement.{statement}
 use Rattle.engine.proofs.configure.apply_end.Tie as tie
@@ -15,7 +15,7 @@ ended-requires : tie.Need-ended-requires
 ended-requires c κs =
     let s = c .before .before .before in
     let w = sym (c .before .before .why-end .ensures) ∙ c .enum-told .given .1 in
-    (end-accepted (s .args .r) (s .pre .0) w, s .pre .1 (end-configuring (s .args .r) w))
+    end-accepted (s .args .r) (s .pre .0) (s .pre .1) w
 
 enum-known-why : tie.Need-enum-known-why
 enum-known-why c = search needs

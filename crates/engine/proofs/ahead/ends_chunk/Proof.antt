@@ -1,4 +1,4 @@
--- `ahead::stops` meets its contract.
+-- `ahead::ends_chunk` meets its contract.
 use Prim.Native.Nat.{ℕ, zero, suc}
 use mathlib.Core.Path.{_≡_, refl}
 use mathlib.Core.Bool.{Bool, true, false}
@@ -8,23 +8,23 @@ use borrow.Author.Tests.{not-true, not-false}
 use Rattle.codec.specs.declared.header.Coupling.{Coupling}
 use Rattle.codec.specs.declared.header.Coupling.the-variants.{Uncoupled, Coupled}
 use Rattle.engine.specs.Rows.{couplingIn}
-use Rattle.engine.specs.Places.{stopsAt}
+use Rattle.engine.specs.Places.{endsAt}
 use borrow.Author.Needs.{needs}
-use Rattle.engine.proofs.ahead.stops.Statement.{statement}
-use Rattle.engine.proofs.ahead.stops.Tie as tie
+use Rattle.engine.proofs.ahead.ends_chunk.Statement.{statement}
+use Rattle.engine.proofs.ahead.ends_chunk.Tie as tie
 
 -- where there is no element
-stops-none : (k : Coupling) (found : Bool) (h : ℕ) → found ≡ false → true ≡ stopsAt k found h
+stops-none : (k : Coupling) (found : Bool) (h : ℕ) → found ≡ false → true ≡ endsAt k found h
 stops-none Uncoupled found h e = rw e
 stops-none (Coupled c) found h e = rw e
 
 -- where there is one: never if uncoupled
-stops-free : (n c : ℕ) (found : Bool) (h : ℕ) → n ≡ 0 → found ≡ true → false ≡ stopsAt (couplingIn n c) found h
+stops-free : (n c : ℕ) (found : Bool) (h : ℕ) → n ≡ 0 → found ≡ true → false ≡ endsAt (couplingIn n c) found h
 stops-free zero c found h z e = rw e
 stops-free (suc n) c found h z e = absurd (omega arith)
 
 -- at the end of a pass if coupled
-stops-coupled : (n c : ℕ) (found : Bool) (h : ℕ) → (n ≡ 0 → ⊥) → found ≡ true → stopsAt (Coupled c) true h ≡ stopsAt (couplingIn n c) found h
+stops-coupled : (n c : ℕ) (found : Bool) (h : ℕ) → (n ≡ 0 → ⊥) → found ≡ true → endsAt (Coupled c) true h ≡ endsAt (couplingIn n c) found h
 stops-coupled zero c found h z e = absurd (z refl)
 stops-coupled (suc n) c found h z e = rw e
 
@@ -47,5 +47,5 @@ returns-3 c =
     let a = c .before .before .before .before .args in
     stops-coupled (getD (a .shape .now) 49 0) (getD (a .shape .now) 50 0) (a .found) (a .height) (c .before .if2 .left) (not-false (a .found) (c .before .before .before .if1 .left))
 
-pub stops-spec : {M : Type 1} → statement M
-stops-spec = tie.close (tie.spec returns element-copy-out-if2 returns-2 element-copy-out-result returns-3)
+pub ends-chunk-spec : {M : Type 1} → statement M
+ends-chunk-spec = tie.close (tie.spec returns element-copy-out-if2 returns-2 element-copy-out-result returns-3)
