@@ -1,5 +1,7 @@
 // The bench: reads a table of rows from standard input, runs each row's sheet on the compiled engine, and compares. The table is the
 // file crates/bench/stdin, whose head says how rows are written.
+#![tactic(auto)]
+
 ghost use Rattle.std.specs.Prelude.{◌<◌, ◌≤◌, length};
 ghost use Rattle.io.specs.Counts.{IsPrefixLen};
 
@@ -9,7 +11,7 @@ use engine::question::{end_of_stream, flag};
 use engine::run::{Report, Verdict, run};
 
 // What becomes of a row.
-#[derive(Drop)]
+#[derive(Clone, Copy)]
 enum Row {
     Agrees,
     Differs,
@@ -17,15 +19,15 @@ enum Row {
 }
 
 // A decimal number, and the place behind its digits.
-#[derive(Drop)]
+#[derive(Clone, Copy)]
 struct Value(u64, usize);
 
 // How many bytes were read, and whether that was all of a field.
-#[derive(Drop)]
+#[derive(Clone, Copy)]
 struct Taken(usize, bool);
 
 // How many rows there were, and how many did not agree.
-#[derive(Drop)]
+#[derive(Clone, Copy)]
 struct Tally {
     rows: u64,
     wrong: u64,

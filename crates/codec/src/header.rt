@@ -6,14 +6,14 @@ ghost use Rattle.codec.specs.declared.header.Worded.TheVariants as worded;
 use crate::refusal::Refusal;
 
 // Whether a stream reads or writes memory.
-#[derive(Drop)]
+#[derive(Clone, Copy)]
 pub enum Kind {
     Load,
     Store,
 }
 
 // The element width: 1, 2, 4 or 8 bytes, codes 0 to 3.
-#[derive(Drop)]
+#[derive(Clone, Copy)]
 pub enum Width {
     B,
     H,
@@ -22,13 +22,13 @@ pub enum Width {
 }
 
 // The dimension at whose pass ends a stream's chunks end, counted from 1, if any.
-#[derive(Drop)]
+#[derive(Clone, Copy)]
 pub enum Coupling {
     Uncoupled,
     Coupled(u64),
 }
 
-#[derive(Drop)]
+#[derive(Clone, Copy)]
 pub struct Header {
     pub kind: Kind,
     pub width: Width,
@@ -37,14 +37,14 @@ pub struct Header {
 }
 
 // What a header word says, or why it is refused: 3, then 4.
-#[derive(Drop)]
+#[derive(Clone, Copy)]
 pub enum Word {
     Said(Header),
     Refused(Refusal),
 }
 
 // A header as a word, or that a field of it is out of range.
-#[derive(Drop)]
+#[derive(Clone, Copy)]
 pub enum Worded {
     Word(u64),
     OutOfRange,

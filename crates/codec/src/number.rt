@@ -3,20 +3,20 @@ ghost use Rattle.std.specs.Prelude.{◌≡◌, ◌≤◌, ◌<◌, ◌^◌, drop
 ghost use Rattle.codec.specs.Numbers.{groups_at, number_at, signed_at, signed_of, value_of};
 
 // A place in a sheet or a nest.
-#[derive(Drop)]
+#[derive(Clone, Copy)]
 pub struct Cursor {
     pub at: usize,
 }
 
 // What reading a number gives: the value together with the moved place, or no number.
-#[derive(Drop)]
+#[derive(Clone, Copy)]
 pub enum Number {
     Value(u64, Cursor),
     NoNumber,
 }
 
 // The same for a signed number.
-#[derive(Drop)]
+#[derive(Clone, Copy)]
 pub enum Signed {
     Whole(i64, Cursor),
     NoWhole,

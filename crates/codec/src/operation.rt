@@ -9,7 +9,7 @@ use crate::number::{Cursor, Number, Signed};
 use crate::refusal::Refusal;
 
 // A dimension of a register's stream: a byte offset, how many indices, and a stride in elements.
-#[derive(Drop)]
+#[derive(Clone, Copy)]
 pub struct Dimension {
     pub register: usize,
     pub offset: Bytes,
@@ -18,7 +18,7 @@ pub struct Dimension {
 }
 
 // Which parameter of its target a modifier changes.
-#[derive(Drop)]
+#[derive(Clone, Copy)]
 pub enum Parameter {
     Size,
     Offset,
@@ -26,14 +26,14 @@ pub enum Parameter {
 }
 
 // Whether a modifier adds or subtracts.
-#[derive(Drop)]
+#[derive(Clone, Copy)]
 pub enum Behaviour {
     Add,
     Subtract,
 }
 
 // A modifier; the target field is 0 to 6, for dimension 1 to 7.
-#[derive(Drop)]
+#[derive(Clone, Copy)]
 pub struct Modifier {
     pub register: usize,
     pub target: u64,
@@ -43,7 +43,7 @@ pub struct Modifier {
 }
 
 // An operation of a sheet. Of a run, the loop register and the count of calculations that follow.
-#[derive(Drop)]
+#[derive(Clone, Copy)]
 pub enum Operation {
     Open(Header, Bytes),
     Dimension(Dimension),
@@ -53,7 +53,7 @@ pub enum Operation {
 }
 
 // What is done to two lanes.
-#[derive(Drop)]
+#[derive(Clone, Copy)]
 pub enum Action {
     Copy,
     Add,
@@ -66,7 +66,7 @@ pub enum Action {
 }
 
 // What is made of all lanes of one source: a single lane.
-#[derive(Drop)]
+#[derive(Clone, Copy)]
 pub enum Fold {
     Sum,
     Smallest,
@@ -75,14 +75,14 @@ pub enum Fold {
 }
 
 // What a calculation does: an action lane by lane, or a fold over all lanes of one source.
-#[derive(Drop)]
+#[derive(Clone, Copy)]
 pub enum Task {
     Each(Action),
     All(Fold),
 }
 
 // A calculation of a run's body.
-#[derive(Drop)]
+#[derive(Clone, Copy)]
 pub struct Calculation {
     pub task: Task,
     pub destination: usize,
@@ -91,14 +91,14 @@ pub struct Calculation {
 }
 
 // What decoding an operation gives: the operation and the place behind it, or the refusal and its place.
-#[derive(Drop)]
+#[derive(Clone, Copy)]
 pub enum Decoded {
     Operation(Operation, Cursor),
     Refused(Refusal, usize),
 }
 
 // The same for a calculation.
-#[derive(Drop)]
+#[derive(Clone, Copy)]
 pub enum Body {
     Calculation(Calculation, Cursor),
     Refused(Refusal, usize),

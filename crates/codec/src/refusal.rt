@@ -2,7 +2,7 @@ ghost use Rattle.std.specs.Prelude.{◌≡◌};
 ghost use Rattle.codec.specs.Refusals.{number_of, lane_of, operand_of, role_number};
 
 // Which operand of a calculation: in the order in which they are looked at.
-#[derive(Drop)]
+#[derive(Clone, Copy)]
 pub enum Role {
     First,
     Second,
@@ -23,7 +23,7 @@ impl Role {
 }
 
 // Why an operation, a calculation, a sheet or a nest is refused: document 01's table, in its order, then document 02's.
-#[derive(Drop)]
+#[derive(Clone, Copy)]
 pub enum Refusal {
     // 1: a number is cut off, too long or not shortest
     BadNumber,

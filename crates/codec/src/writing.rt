@@ -16,7 +16,7 @@ use crate::operation::{
 };
 
 // The place behind what was written, or why nothing was: no room for it, or a field out of range.
-#[derive(Drop)]
+#[derive(Clone, Copy)]
 pub enum Written {
     To(usize),
     NoRoom,
@@ -24,7 +24,7 @@ pub enum Written {
 }
 
 // Bytes that are ready to be written: the first len of them.
-#[derive(Drop)]
+#[derive(Clone, Copy)]
 struct Text {
     bytes: [u8; 32],
     len: usize,

@@ -11,7 +11,7 @@ use codec::amounts::{Bytes, Elements};
 use codec::operation::Parameter;
 
 // What modifiers move a parameter by.
-#[derive(Drop)]
+#[derive(Clone, Copy)]
 struct Change(i64);
 
 // What adding modifiers add less what subtracting ones take.

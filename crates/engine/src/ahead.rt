@@ -15,7 +15,7 @@ use codec::amounts::Bytes;
 // A chunk that was looked at: whether there is a stream at all, how many elements, and in how many parts. A part is elements of one row,
 // three numbers of an array: the first address, the step and how many. Then where the stream stands behind the chunk: whether there is a
 // stop, the height of the flags, the innermost index, and what a running register remembers of it.
-#[derive(Drop)]
+#[derive(Clone, Copy)]
 pub(crate) struct Ahead {
     pub live: bool,
     pub found: bool,

@@ -21,7 +21,7 @@ use codec::operation::Task;
 use codec::refusal::{Refusal, Role};
 
 // What the checks found: why the calculation is refused, if it is; the three operands, if it is not.
-#[derive(Drop)]
+#[derive(Clone, Copy)]
 pub(crate) struct Checked {
     pub why: Why,
     pub first: Ahead,
@@ -30,7 +30,7 @@ pub(crate) struct Checked {
 }
 
 // The three registers after a calculation.
-#[derive(Drop)]
+#[derive(Clone, Copy)]
 pub(crate) struct Outcome {
     pub first: Running,
     pub second: Running,

@@ -1,14 +1,14 @@
 // Why something is refused, if it is.
 use codec::refusal::Refusal;
 
-#[derive(Drop)]
+#[derive(Clone, Copy)]
 pub enum Why {
     Nothing,
     Because(Refusal),
 }
 
 // The answer to a question about a stream.
-#[derive(Drop)]
+#[derive(Clone, Copy)]
 pub enum Told {
     Yes,
     No,

@@ -263,7 +263,7 @@ pub(crate) fn with_modifier(r: Register, m: Modifier) -> Register
 }
 
 // An operation on its register: why it is refused, if it is, and the register after it, which a refusal leaves as it was.
-#[derive(Drop)]
+#[derive(Clone, Copy)]
 pub(crate) struct Applied {
     pub why: Why,
     pub register: Register,

@@ -9,7 +9,7 @@ ghost use Rattle.codec.specs.declared.operation.Behaviour.TheVariants.{Add, Subt
 use codec::operation::Parameter;
 
 // What modifiers add to a parameter of a dimension, and what they take from it.
-#[derive(Drop)]
+#[derive(Clone, Copy)]
 pub(crate) struct UpDown {
     pub up: u64,
     pub down: u64,

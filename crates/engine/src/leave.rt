@@ -14,7 +14,7 @@ use crate::walk::next_stop;
 use codec::amounts::Bytes;
 
 // Whether there is a further stop, where it lies, and the height of the flags there.
-#[derive(Drop)]
+#[derive(Clone, Copy)]
 pub(crate) struct Leaving {
     pub found: bool,
     pub height: u64,

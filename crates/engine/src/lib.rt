@@ -1,4 +1,6 @@
 // The stream engine: registers, the loops of their streams, chunks and flags, calculations, and the run of a sheet.
+#![tactic(auto)]
+
 mod address;
 mod ahead;
 mod calculate;

@@ -17,7 +17,7 @@ use codec::amounts::Bytes;
 
 // What the descriptors of a stream come to: its dimensions and modifiers, how many elements its loops have, and the addresses of
 // the first and the last of them (0 if there is none).
-#[derive(Drop)]
+#[derive(Clone, Copy)]
 pub struct Extent {
     pub dims: usize,
     pub mods: usize,
@@ -27,21 +27,21 @@ pub struct Extent {
 }
 
 // No stream that was ended, or what it comes to.
-#[derive(Drop)]
+#[derive(Clone, Copy)]
 pub enum Outline {
     Unended,
     Stream(Extent),
 }
 
 // An element of a stream: its address, or that there is none.
-#[derive(Drop)]
+#[derive(Clone, Copy)]
 pub enum Located {
     Nowhere,
     At(Bytes),
 }
 
 // What a register keeps of a stream: whether one was ended, and then its pattern and the width.
-#[derive(Drop)]
+#[derive(Clone, Copy)]
 pub(crate) struct Kept {
     pub ended: bool,
     pub pattern: Pattern,

@@ -14,7 +14,7 @@ use crate::size::size_at;
 use codec::amounts::Bytes;
 
 // What is reckoned at a stop: its address, the innermost size of its pass, 0 if it is no element, and the innermost stride in bytes.
-#[derive(Drop)]
+#[derive(Clone, Copy)]
 pub(crate) struct Spot {
     pub address: Bytes,
     pub size: u64,

@@ -7,7 +7,7 @@ use codec::amounts::{Bytes, Elements};
 use codec::header::{Coupling, Kind};
 use codec::operation::{Behaviour, Parameter};
 
-#[derive(Drop)]
+#[derive(Clone, Copy)]
 pub enum State {
     Plain,
     Configuring,
@@ -18,7 +18,7 @@ pub enum State {
 // A vector register: its state, its content (width, valid lanes, bytes), and its stream: kind, descriptors, how many stops
 // it has gone past (its elements and, if it is coupled, the passes of that dimension that hold none), the index of the next
 // one, and the number that gives all flags.
-#[derive(Drop)]
+#[derive(Clone, Copy)]
 pub struct Register {
     pub state: State,
     pub width: u64,
@@ -31,7 +31,7 @@ pub struct Register {
     pub height: u64,
 }
 
-#[derive(Drop)]
+#[derive(Clone, Copy)]
 pub struct Machine {
     pub registers: [Register; 32],
 }

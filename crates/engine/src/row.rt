@@ -30,7 +30,7 @@ fn behaviour_of(m: Modifier) -> u64
 }
 
 // Two numbers: whether a stream is coupled, and to which dimension.
-#[derive(Drop)]
+#[derive(Clone, Copy)]
 struct Pair {
     first: u64,
     second: u64,

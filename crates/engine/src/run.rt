@@ -12,21 +12,21 @@ use codec::operation::Calculation;
 use codec::refusal::Refusal;
 
 // Done, or refused: the refusal and its place.
-#[derive(Drop)]
+#[derive(Clone, Copy)]
 pub enum Verdict {
     Done,
     Refused(Refusal, usize),
 }
 
 // What a run reports: passes and calculations completed.
-#[derive(Drop)]
+#[derive(Clone, Copy)]
 pub struct Report {
     pub passes: u64,
     pub calculations: u64,
 }
 
 // The answer of a sheet. The memory is the caller's.
-#[derive(Drop)]
+#[derive(Clone, Copy)]
 pub struct Answer {
     pub verdict: Verdict,
     pub report: Report,
@@ -34,14 +34,14 @@ pub struct Answer {
 }
 
 // A calculation of a body, with the place of its first byte.
-#[derive(Drop)]
+#[derive(Clone, Copy)]
 pub struct Placed {
     pub place: usize,
     pub calculation: Calculation,
 }
 
 // What some operations of a sheet leave: the verdict so far, and the registers.
-#[derive(Drop)]
+#[derive(Clone, Copy)]
 pub struct Settled {
     pub verdict: Verdict,
     pub machine: Machine,

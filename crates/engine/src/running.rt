@@ -11,7 +11,7 @@ use codec::header::Kind;
 
 // `index` is the innermost. Of an open stream `address`, `size` and `step` are the next element's address, the innermost size of its
 // pass and the innermost stride in bytes; where it stands at a coupled pass that holds no element, `size` is 0.
-#[derive(Drop)]
+#[derive(Clone, Copy)]
 pub(crate) struct Running {
     pub state: State,
     pub kind: Kind,

@@ -16,40 +16,40 @@ use codec::operation::{
 use codec::refusal::Refusal;
 
 // The calculations of a body: the first `count` steps.
-#[derive(Drop)]
+#[derive(Clone, Copy)]
 pub(crate) struct Steps {
     pub count: usize,
     pub steps: [Placed; 16],
 }
 
 // How reading a body ends: whole, with the place behind it, or broken, with the refusal and its place.
-#[derive(Drop)]
+#[derive(Clone, Copy)]
 pub(crate) enum Reading {
     Whole(usize),
     Broken(Refusal, usize),
 }
 
-#[derive(Drop)]
+#[derive(Clone, Copy)]
 pub(crate) struct Bodied {
     pub reading: Reading,
     pub body: Steps,
 }
 
 // How the operations of a sheet end: no byte is left; a run, with its loop register; a refusal and its place.
-#[derive(Drop)]
+#[derive(Clone, Copy)]
 pub(crate) enum Ending {
     Over,
     Runs(usize),
     Refused(Refusal, usize),
 }
 
-#[derive(Drop)]
+#[derive(Clone, Copy)]
 pub(crate) struct Ended {
     pub ending: Ending,
     pub body: Steps,
 }
 
-#[derive(Drop)]
+#[derive(Clone, Copy)]
 pub(crate) struct Prepared {
     pub ending: Ending,
     pub body: Steps,
@@ -182,7 +182,7 @@ fn run_ending(s: &[u8], place: usize, register: usize, n: usize, from: usize, m:
 }
 
 // What an operation is to the sheet: a run, with its loop register and count, or one that configures.
-#[derive(Drop)]
+#[derive(Clone, Copy)]
 pub(crate) enum Turn {
     Run(usize, u64),
     Configures,

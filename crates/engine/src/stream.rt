@@ -4,7 +4,7 @@ use codec::header::Coupling;
 use codec::operation::{Behaviour, Parameter};
 
 // A modifier. Dimensions are counted from 0 here: the target is the sheet's field, the owner the place of its dimension.
-#[derive(Drop)]
+#[derive(Clone, Copy)]
 pub struct Modifier {
     pub owner: usize,
     pub target: usize,
@@ -14,7 +14,7 @@ pub struct Modifier {
 }
 
 // What the loops depend on: the dimensions' sizes, innermost first, the modifiers, and the coupling.
-#[derive(Drop)]
+#[derive(Clone, Copy)]
 pub struct Shape {
     pub dims: usize,
     pub sizes: [u64; 7],
@@ -24,7 +24,7 @@ pub struct Shape {
 }
 
 // A stream's descriptors: its shape, and where its elements lie. Offsets count bytes and strides count elements.
-#[derive(Drop)]
+#[derive(Clone, Copy)]
 pub struct Pattern {
     pub shape: Shape,
     pub base: Bytes,

@@ -17,7 +17,7 @@ use codec::amounts::Bytes;
 use codec::operation::{Action, Task};
 
 // What the address check found: every element lies inside, or the first lane outside, counted from 0.
-#[derive(Drop)]
+#[derive(Clone, Copy)]
 pub(crate) enum Addresses {
     Inside,
     Outside(usize),

@@ -76,7 +76,7 @@ pub(crate) fn next(shape: &[u64; 51], index: &mut [u64; 7]) -> bool
 // ---- stops
 
 // Where a walk over stops has come: whether there is a stop, and then whether it is a coupled pass that holds no element.
-#[derive(Drop)]
+#[derive(Clone, Copy)]
 pub(crate) struct Arrival {
     pub found: bool,
     pub empty: bool,

@@ -1,4 +1,6 @@
 // Lists a sheet as text.
+#![tactic(auto)]
+
 ghost use Rattle.io.specs.Counts.{IsPrefixLen};
 
 use codec::refusal::Refusal;

@@ -2,7 +2,7 @@
 
 // What has been read of a line: how many semicolons, its first byte, its name, the hexadecimal digits of its nest, the numbers behind that,
 // and whether a byte stood where it cannot stand.
-#[derive(Drop)]
+#[derive(Clone, Copy)]
 pub struct Line {
     pub marks: u64,
     pub kind: u8,

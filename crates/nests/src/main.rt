@@ -1,6 +1,8 @@
 // Nests of our own, run by the translator's `run_nest` and by plain loops: reads a table of rows from standard input, writes a line for each,
 // and at the end how many there were and how many were not as they must be. The table is the file crates/nests/stdin, whose head says
 // how rows are written.
+#![tactic(auto)]
+
 mod line;
 mod plain;
 mod rows;

@@ -6,14 +6,14 @@ ghost use Rattle.std.specs.Prelude.{◌+◌, ◌*◌, ◌<◌, ◌≤◌};
 
 // How many visits there were, and the visit from which on nothing was done: one that was given, or the first with an element outside
 // memory. The first visit is visit 0.
-#[derive(Drop)]
+#[derive(Clone, Copy)]
 pub struct Tour {
     pub visits: u64,
     pub stop: u64,
 }
 
 // What has been read of a nest: its numbers in order, at most 56, and how many; then the next number so far, and what its next group counts.
-#[derive(Drop)]
+#[derive(Clone, Copy)]
 struct Numbers {
     all: [u64; 80],
     count: usize,
@@ -22,15 +22,15 @@ struct Numbers {
 }
 
 // An amount of bytes.
-#[derive(Drop)]
+#[derive(Clone, Copy)]
 struct Bytes(u64);
 
 // A signed amount of elements, as a nest has it: "A signed n is written as 2n if n is 0 or more, else -2n-1."
-#[derive(Drop)]
+#[derive(Clone, Copy)]
 struct Elements(u64);
 
 // The places of the elements of a visit.
-#[derive(Drop)]
+#[derive(Clone, Copy)]
 struct Places {
     first: Bytes,
     second: Bytes,

@@ -10,7 +10,7 @@ use translator::run::run_nest;
 const SIZE: usize = 16384;
 
 // How many rows there were, and how many were not as they must be.
-#[derive(Drop)]
+#[derive(Clone, Copy)]
 pub struct Tally {
     pub rows: u64,
     pub wrong: u64,
@@ -18,7 +18,7 @@ pub struct Tally {
 
 // How a run ends: where the answer was found (0 at the lengths, 1 in the nest, 2 in the run of its sheet), the refusal's number, 0 if
 // there is none, and its place.
-#[derive(Drop)]
+#[derive(Clone, Copy)]
 struct Ending {
     stage: u64,
     number: u64,
@@ -26,7 +26,7 @@ struct Ending {
 }
 
 // What a row must show: how the runs end, and at how many of eight vector lengths, from the first in steps of 8, memory is as it must be.
-#[derive(Drop)]
+#[derive(Clone, Copy)]
 struct Want {
     ending: Ending,
     same: u64,
@@ -35,7 +35,7 @@ struct Want {
 
 // What one vector length shows: the visits of the plain loop, how the run ended, and the first byte at which memory is not as it must be,
 // `SIZE` if there is none.
-#[derive(Drop)]
+#[derive(Clone, Copy)]
 struct Compared {
     visits: u64,
     ending: Ending,
@@ -44,7 +44,7 @@ struct Compared {
 
 // What a row shows: the visits, at how many lengths the run ended as it must, and how it ended at the last; at how many memory was as it
 // must be, and the first length and byte at which it was not.
-#[derive(Drop)]
+#[derive(Clone, Copy)]
 struct Shown {
     visits: u64,
     ended: u64,

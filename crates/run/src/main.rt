@@ -1,4 +1,6 @@
 // Runs a sheet file on a copy of a memory file, and says in words what came of it.
+#![tactic(auto)]
+
 use engine::register::Machine;
 use engine::run::{Answer, Verdict};
 use words::argument::{asks_for_help, complain, number_argument};

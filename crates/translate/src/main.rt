@@ -1,5 +1,7 @@
 // Reads a nest from standard input and writes its sheet to standard output, or nothing if it is refused; why it is refused is said on
 // standard error.
+#![tactic(auto)]
+
 use codec::refusal::Refusal;
 use libc::STDERR_FILENO;
 use translator::nest::Translated;

@@ -17,7 +17,7 @@ use engine::check::Why;
 use engine::run::Verdict;
 
 // Some numbers of a nest that were read, with the place behind them, or why not.
-#[derive(Drop)]
+#[derive(Clone, Copy)]
 struct Part {
     verdict: Verdict,
     nest: Nest,
@@ -25,7 +25,7 @@ struct Part {
 }
 
 // Some numbers of an access that were read, with the place behind them, or why not.
-#[derive(Drop)]
+#[derive(Clone, Copy)]
 struct Side {
     verdict: Verdict,
     access: Access,

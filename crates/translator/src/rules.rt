@@ -14,11 +14,11 @@ use engine::shape::check_shape;
 use engine::stream::{Modifier, Shape};
 
 // A term of a loop.
-#[derive(Drop)]
+#[derive(Clone, Copy)]
 struct Term(i64);
 
 // The first eight modifiers, and how many there are; 9 is more than eight.
-#[derive(Drop)]
+#[derive(Clone, Copy)]
 struct Kept {
     count: usize,
     modifiers: [Modifier; 8],

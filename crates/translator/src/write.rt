@@ -13,7 +13,7 @@ use codec::operation::{Calculation, Dimension, Modifier, Operation, Task};
 use codec::writing::{Written, put_calculation, put_operation};
 
 // A sheet that is being written: its bytes, and the place behind them.
-#[derive(Drop)]
+#[derive(Clone, Copy)]
 pub(crate) struct Page {
     pub(crate) bytes: [u8; 1024],
     pub(crate) at: usize,

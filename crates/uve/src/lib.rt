@@ -1,4 +1,6 @@
 // The boundary: the engine and the translator, for programs in other languages. include/uve.h declares the same two functions for C.
+#![tactic(auto)]
+
 mod numbers;
 mod put;
 

@@ -1,6 +1,8 @@
 // Walks streams to their end and prints, for each, the elements that the engine moved and the iterations that plain loops of the
 // same descriptors begin. The first byte of standard input chooses one stream, from 1 to 9, to be walked alone and timed from
 // outside; any other walks and counts all. The second byte, if it is 8, has the vector length 8 instead of 64.
+#![tactic(auto)]
+
 ghost use Rattle.std.specs.Prelude.{◌≤◌};
 
 use engine::run::{run, set_up};

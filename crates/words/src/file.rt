@@ -6,7 +6,7 @@ ghost use Rattle.words.specs.Files.{is_ended, is_failed, is_full};
 use crate::argument::complain;
 
 // How reading stopped: at the end of the file, in a read that failed, or with the buffer full.
-#[derive(Drop)]
+#[derive(Clone, Copy)]
 pub enum Stop {
     Ended,
     Failed,
@@ -14,7 +14,7 @@ pub enum Stop {
 }
 
 // How many bytes were put at the start of the buffer, and how reading stopped.
-#[derive(Drop)]
+#[derive(Clone, Copy)]
 pub struct Taken {
     pub count: usize,
     pub stop: Stop,

@@ -1,4 +1,6 @@
 // What the programs print and read: sheets, refusals and registers in words, files and arguments.
+#![tactic(auto)]
+
 pub mod argument;
 pub mod file;
 pub mod memory;

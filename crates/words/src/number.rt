@@ -3,7 +3,7 @@ ghost use Rattle.std.specs.Prelude.{◌≡◌, ◌+◌, ◌-◌, ◌*◌, ◌≤
 ghost use Rattle.words.specs.Decimals.{is_digit, decimal_of};
 
 // What text says: a number, one above 4,294,967,295 being read as that, or none.
-#[derive(Drop)]
+#[derive(Clone, Copy)]
 pub enum Decimal {
     Number(u64),
     NoNumber,

@@ -7,7 +7,7 @@ use codec::operation::{
 };
 
 // How many dimensions and modifiers a register has been given since it was opened.
-#[derive(Drop)]
+#[derive(Clone, Copy)]
 pub struct Given {
     pub dims: u64,
     pub mods: u64,

@@ -9,7 +9,7 @@ use engine::outline::{Extent, Outline, outline_of};
 // Where the walk over a sheet stands: the place of the next operation; the last place up to it at which no register was being configured,
 // how many operations came from there on, and how many registers are being configured; the register opened last, what each register has
 // been given, and whether the walk is over.
-#[derive(Drop)]
+#[derive(Clone, Copy)]
 struct Walk {
     place: usize,
     since: usize,
@@ -21,7 +21,7 @@ struct Walk {
 }
 
 // The place behind a calculation, or that no more is to be written.
-#[derive(Drop)]
+#[derive(Clone, Copy)]
 enum Onward {
     To(usize),
     Over,
