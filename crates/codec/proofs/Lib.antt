@@ -4,4 +4,3 @@ pub mod Fields
 mod Asked
 mod Texts
 mod Ranges
-mod Others

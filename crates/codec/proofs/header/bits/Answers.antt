@@ -1,0 +1,16 @@
+-- `header::bits` meets its contract: shifting right is division, and the mask leaves the remainder.
+use native.Mathlib.Omega.{arith}
+use lib.Bits.{and_mask}
+use Prim.Native.Nat.{◌/◌, ◌^◌}
+use lib.Pow.{shl_exact, pow_pos}
+use native.Mathlib.Nat.{one-mul}
+use borrow.Author.Rules.{rules}
+use Rattle.codec.proofs.header.bits.Goals as goal
+
+pub overflow_sub-result : goal.overflow_sub-result
+overflow_sub-result c =
+    rw (shl_exact {a = 1} 1 c.args.n 32 (omega arith) (omega arith), one-mul) (pow_pos c.args.n)
+
+pub returns : goal.returns
+returns c =
+    rw (shl_exact {a = 1} 1 c.args.n 32 (omega arith) (omega arith), one-mul, and_mask (c.args.w / 2 ^ c.args.lo) c.args.n)
