@@ -1,0 +1,23 @@
+-- `walk::to_pass` meets its contract: the search over the dimensions outside finds the first pass to come, if any, and this is entered.
+use Rattle.std.proofs.Common.{drop, arith, rules}
+use Rattle.engine.specs.Rows.{shape_in}
+use Rattle.engine.proofs.Found.{to-first, to_none}
+use Rattle.engine.proofs.walk.to_pass.Goals as goal
+
+pub enter-requires : goal.enter-requires
+enter-requires c =
+    let a = c in
+    let k = c.seek.ensures.1 in
+    ((a.requires.0.0, (a.requires.0.1.0, omega arith), k.long), k.under c.if-seek.true)
+
+pub returns-then-seek : goal.returns-then-seek
+returns-then-seek c =
+    let a = c.args in
+    let k = c.seek in
+    to-first (shape_in a.shape.now) a.c _ (drop a.c k.new.1.0) _ k.result k.ensures.0 c.if-seek.true c.enter.result.found c.enter.result.empty c.enter.new.1.0
+    c.enter.ensures.1 c.enter.ensures.0
+
+pub returns : goal.returns
+returns c =
+    let a = c.args in
+    to_none (shape_in a.shape.now) a.c _ _ c.seek.result c.seek.ensures.0 c.if-seek.false _ _
