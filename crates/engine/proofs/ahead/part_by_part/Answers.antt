@@ -29,12 +29,12 @@ pub loop-count-init : goal.loop-count-init
 unfolding joined_in
 loop-count-init c =
     let a = c in
-    let y = a.requires.0.0 in (
-      going _ y a.requires.1.2 a.args.most _ a.requires.0.1,
+    let y = a.requires.ready.0 in (
+      going _ y a.requires.most_bound.2 a.args.most _ a.requires.ready.1,
       y,
-      a.requires.1.0,
+      a.requires.most_bound.0,
       row-long _ a.args.index.now a.args.r y,
-      a.requires.1.1,
+      a.requires.most_bound.1,
       (omega arith, λ k h. absurd (omega arith)),
       omega arith,
     )
@@ -107,16 +107,16 @@ plus-address-requires c =
 pub returns : goal.returns
 returns c =
     let gone-by : (n : ℕ) → gone_by c.args.r n ≡ n = λ n. let q = c.args.r in
-    gone-told (pattern_in c.args.shape.now c.args.places.now) c.args.index.now q c.requires.0.0 c.requires.0.1 n
-    ∙ past-lanes (view_of (pattern_in c.args.shape.now c.args.places.now) [] c.args.index.now q) n c.requires.1.2 in
+    gone-told (pattern_in c.args.shape.now c.args.places.now) c.args.index.now q c.requires.ready.0 c.requires.ready.1 n
+    ∙ past-lanes (view_of (pattern_in c.args.shape.now c.args.places.now) [] c.args.index.now q) n c.requires.most_bound.2 in
     let l = c.loop-count in
     let a = c.args in
     let v = in_row l.index l.i l.address l.size l.step in
-    let held = c.requires.1.2 in
+    let held = c.requires.most_bound.2 in
     let counted : l.count ≡ min a.most (left_in_group (stream_groups (shape_in a.shape.now)) a.r.moved) =
     omega (arith, l.invariant.0.few, c.loop-count-test.false, l.invariant.0.rest, left-some (stream_groups (shape_in a.shape.now)) (a.r.moved + l.count) (omega (arith, l.invariant.0.below, ap length (groups-join (size_at (shape_in a.shape.now)) (shape_in a.shape.now).dims (shape_in a.shape.now).coupling)))) in
-    let o : Ahead = record { live = true; found = true; count = l.count; parts = l.m; height = l.height; index = l.i; address = l.address; size = l.size; step = l.step } in (
-      (
+    let o : Ahead = record { live = true; found = true; count = l.count; parts = l.m; height = l.height; index = l.i; address = l.address; size = l.size; step = l.step } in record {
+      live_value = (
         refl,
         (
           l.invariant.5,
@@ -127,6 +127,6 @@ returns c =
               (λ lanes k. standing Open (a.r.moved + gone-by l.count k) (set l.index 0 l.i) l.height (view_of (pattern_in a.shape.now a.places.now) lanes a.index.now a.r))
               (λ t. here_place _ l.invariant.1 a.most l.count v l.height _ l.invariant.0),
         ),
-      ),
-      l.invariant.4,
-    )
+      );
+      parts_len = l.invariant.4;
+    }

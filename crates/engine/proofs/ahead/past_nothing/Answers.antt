@@ -17,7 +17,7 @@ leave_row-next-requires c =
     let a = c in
     let y = a.requires.0 in
     let p = pattern_in a.args.shape.now a.args.places.now in
-    ((y.pattern, (y.width, y.accepted)), subst (Stop p.shape (set a.args.index.now 0 a.args.r.index)) a.requires.1 (here-stop p a.args.index.now a.args.r y))
+    record { ranged_pattern = (y.pattern, (y.width, y.accepted)); stop = subst (Stop p.shape (set a.args.index.now 0 a.args.r.index)) a.requires.1 (here-stop p a.args.index.now a.args.r y) }
 
 pub returns : goal.returns
 returns c =

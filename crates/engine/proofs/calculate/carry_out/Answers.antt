@@ -12,60 +12,57 @@ use Rattle.engine.proofs.calculate.carry_out.Goals as goal
 pub read_source-requires : goal.read_source-requires
 read_source-requires c =
     let a = c in
-    let w = a.requires.0 in
-    ((width-range _ w.wide, λ t. (subst (λ k. k * a.args.width ≤ 64) (sym (w.first_long t)) w.room, w.parts.0)), w.first)
+    let w = a.requires.within in
+    record { le_width = (width-range _ w.wide, λ t. (subst (λ k. k * a.args.width ≤ 64) (sym (w.first_long t)) w.room, w.parts.0)); parts_value = w.first }
 
 pub read_second-requires : goal.read_second-requires
 read_second-requires c =
     let a = c in
-    let w = a.requires.0 in
-    let p : a.args.same ≡ false → cond a.args.same a.args.xs.now a.args.ys.now ≡ a.args.ys.now = λ e. ap (λ b. cond b a.args.xs.now a.args.ys.now) e in (
-      (
+    let w = a.requires.within in
+    let p : a.args.same ≡ false → cond a.args.same a.args.xs.now a.args.ys.now ≡ a.args.ys.now = λ e. ap (λ b. cond b a.args.xs.now a.args.ys.now) e in record { le_width = (
         width-range _ w.wide,
         λ e t. (
           subst (λ l. length (listed_in a.args.y l) * a.args.width ≤ 64) (p e) (subst (λ k. k * a.args.width ≤ 64) (sym (w.second_long t ∙ w.counts)) w.room),
           subst (Parts a.args.y.parts) (p e) w.parts.1.0,
         ),
-      ),
-      λ e t. subst (λ l. all_within (length a.args.memory.now) a.args.width (listed_in a.args.y l) ≡ true) (p e) (w.second t),
-    )
+      ); parts_value = λ e t. subst (λ l. all_within (length a.args.memory.now) a.args.width (listed_in a.args.y l) ≡ true) (p e) (w.second t) }
 
 pub calculate_lanes-requires : goal.calculate_lanes-requires
 calculate_lanes-requires c =
-    let w = c.requires.0 in (width-range _ w.wide, w.room)
+    let w = c.requires.within in (width-range _ w.wide, w.room)
 
 pub write_destination-requires : goal.write_destination-requires
 write_destination-requires c =
-    let w = c.requires.0 in
+    let w = c.requires.within in
     let k = c.outcome_count-k.ensures in
-    ((width-range _ w.wide, subst (λ n. n * c.args.width ≤ 64) (sym k) w.fits), λ t. ((w.third_long t ∙ w.fills t ∙ sym k, w.parts.1.1), w.third t))
+    record { le_width = (width-range _ w.wide, subst (λ n. n * c.args.width ≤ 64) (sym k) w.fits); parts_len = λ t. ((w.third_long t ∙ w.fills t ∙ sym k, w.parts.1.1), w.third t) }
 
 pub after_read-requires : goal.after_read-requires
 after_read-requires c =
-    c.requires.1.0.0
+    c.requires.count_bound.0.0
 
 pub after_read-requires-2 : goal.after_read-requires-2
 after_read-requires-2 c =
-    c.requires.1.0.1.0
+    c.requires.count_bound.0.1.0
 
 pub after_write-requires : goal.after_write-requires
 after_write-requires c =
-    c.requires.1.0.1.1
+    c.requires.count_bound.0.1.1
 
 pub returns : goal.returns
 returns c =
-    let second-bytes : let a = c.args in c.read_second.new.1.1.1.1.1.1.0 ≡ cond a.y.live (packed a.width (fetched_at a.memory.now a.width (listed_in a.y (cond a.same a.xs.now a.ys.now)))) a.lb.now = go c.args.same refl
+    let second-bytes : let a = c.args in c.read_second.new.lanes.0 ≡ cond a.y.live (packed a.width (fetched_at a.memory.now a.width (listed_in a.y (cond a.same a.xs.now a.ys.now)))) a.lb.now = go c.args.same refl
   where
     go : (b : Bool) → c.args.same ≡ b
-        → c.read_second.new.1.1.1.1.1.1.0 ≡ cond c.args.y.live (packed c.args.width (fetched_at c.args.memory.now c.args.width (listed_in c.args.y (cond c.args.same c.args.xs.now c.args.ys.now)))) c.args.lb.now
+        → c.read_second.new.lanes.0 ≡ cond c.args.y.live (packed c.args.width (fetched_at c.args.memory.now c.args.width (listed_in c.args.y (cond c.args.same c.args.xs.now c.args.ys.now)))) c.args.lb.now
     go true e =
         let a = c in
-        let h = a.requires.1.1 e in
+        let h = a.requires.count_bound.1 e in
         rw e ((rw e at c.read_second.ensures) ∙ c.read_source.ensures
         ∙ (λ i. cond (sym h.0 i).live (packed a.args.width (fetched_at a.args.memory.now a.args.width (listed_in (sym h.0 i) a.args.xs.now))) (sym h.1 i)))
     go false e = rw e (rw e at c.read_second.ensures) in
     let a = c in
-    let w = a.requires.0 in
+    let w = a.requires.within in
     let m = a.args.memory.now in
     let width = a.args.width in
     let x = a.args.x in
@@ -76,7 +73,7 @@ returns c =
     let o = c.calculate_lanes in
     let d = c.write_destination in
     let first = r.new.1.1.1.1.0 in
-    let second = c.read_second.new.1.1.1.1.1.1.0 in
+    let second = c.read_second.new.lanes.0 in
     let ys = cond a.args.same a.args.xs.now a.args.ys.now in
     let b : Bytewise m = λ i. (c.slice_known-1.given i).fits in
     let p = read_back width n m x a.args.xs.now a.args.la.now first refl w.room w.first_long b r.ensures in

@@ -18,26 +18,26 @@ use Rattle.engine.proofs.execute.execute.Goals as goal
 
 pub lay_out-all-requires : goal.lay_out-all-requires
 lay_out-all-requires c =
-    ((c.args.vl, c.requires.1.1.0), search rules)
+    record { by_index = (c.args.vl, c.requires.all_named.1.0); shapes_len = search rules }
 
 pub offset_bounds-all-register : goal.offset_bounds-all-register
 offset_bounds-all-register c =
-    omega (arith, c.requires.0.1.0)
+    omega (arith, c.requires.le_vl.1.0)
 
 pub bounds-all-register : goal.bounds-all-register
 bounds-all-register c =
-    c.requires.0.1.0
+    c.requires.le_vl.1.0
 
 pub loop-open-init : goal.loop-open-init
 loop-open-init c =
     let s = c in
     let y = c.lay_out-all in
     let e = y.ensures.1 in (
-      s.requires.0.1.1,
+      s.requires.le_vl.1.1,
       search (rules, unmapped),
       subst (λ rs. Passes s.args.vl s.args.register (take s.args.body.count s.args.body.steps) (record { machine = s.args.m; memory = s.args.memory.now }) rs s.args.memory.now 0 0 c.is_open-open.result) (sym e)
-          (passes-begun _ _ _ s.args.m _ _ s.requires.0.0.0 s.requires.0.1.0 s.requires.1.0 s.requires.1.1.0 s.requires.1.1.1
-          (c.is_open-open.ensures ∙ ap (λ r. is_open r.state) (sym (views-at y.new.1.0 y.new.1.1.0 y.new.1.1.1.0 y.new.1.1.1.1.0 y.result s.args.register s.requires.0.1.0) ∙ ap (λ rs. get_or rs s.args.register no_register) e))),
+          (passes-begun _ _ _ s.args.m _ _ s.requires.le_vl.0.0 s.requires.le_vl.1.0 s.requires.all_named.0 s.requires.all_named.1.0 s.requires.all_named.1.1
+          (c.is_open-open.ensures ∙ ap (λ r. is_open r.state) (sym (views-at y.new.1.0 y.new.1.1.0 y.new.1.1.1.0 y.new.1.1.1.1.0 y.result s.args.register s.requires.le_vl.1.0) ∙ ap (λ rs. get_or rs s.args.register no_register) e))),
       record { out = y.ensures.0; firsts = search rules; seconds = search rules; thirds = search rules; long = refl },
     )
 
@@ -117,14 +117,14 @@ pub check_calculation-o-requires : goal.check_calculation-o-requires
 check_calculation-o-requires c =
     let named : Named (get_or c.args.body.steps c.loop-k.k no_step).calculation = named_here _ _ _ _ _ _ _ _ _ _ _ c.loop-k.invariant.0 c.loop-k-test.true (omega (arith, c.loop-open.invariant.0, c.loop-open.invariant.1)) in
     let calculation : Calculation = (get_or c.args.body.steps c.loop-k.k no_step).calculation in
-    let shapes : List (List ℕ) = c.lay_out-all.new.1.0 in
-    let places : List (List ℤ) = c.lay_out-all.new.1.1.0 in
+    let shapes : List (List ℕ) = c.lay_out-all.new.shapes in
+    let places : List (List ℤ) = c.lay_out-all.new.places in
     let fits : (i : ℕ) → i < 32 → Fit c.args.vl (pattern_at (shapes) (places) i) (get_or c.loop-k.indices i []) (get_or c.loop-k.all i no_running) = let l = c.loop-k in fit_at (shapes) (places) l.lanes l.indices l.all l.invariant.1.out c.args.vl l.invariant.0.good in
     let m = c in
     let l = m.loop-k in
     let a = m in
     let f = fits in (
-      ((a.requires.0.0.0, a.requires.0.0.1), (named.first, (named.second, named.destination))),
+      ((a.requires.le_vl.0.0, a.requires.le_vl.0.1), (named.first, (named.second, named.destination))),
       (
         (l.invariant.1.firsts, (l.invariant.1.seconds, l.invariant.1.thirds)),
         (
@@ -138,8 +138,8 @@ check_calculation-o-requires c =
 
 pub rejoined-requires : goal.rejoined-requires
 rejoined-requires c =
-    let shapes : List (List ℕ) = c.lay_out-all.new.1.0 in
-    let places : List (List ℤ) = c.lay_out-all.new.1.1.0 in
+    let shapes : List (List ℕ) = c.lay_out-all.new.shapes in
+    let places : List (List ℤ) = c.lay_out-all.new.places in
     let m = c in
     let l = m.loop-k in
     let y = m.lay_out-all in
@@ -153,8 +153,8 @@ pub returns-in-Because : goal.returns-in-Because
 returns-in-Because c =
     let named : Named (get_or c.args.body.steps c.loop-k.k no_step).calculation = named_here _ _ _ _ _ _ _ _ _ _ _ c.loop-k.invariant.0 c.loop-k-test.true (omega (arith, c.loop-open.invariant.0, c.loop-open.invariant.1)) in
     let calculation : Calculation = (get_or c.args.body.steps c.loop-k.k no_step).calculation in
-    let shapes : List (List ℕ) = c.lay_out-all.new.1.0 in
-    let places : List (List ℤ) = c.lay_out-all.new.1.1.0 in
+    let shapes : List (List ℕ) = c.lay_out-all.new.shapes in
+    let places : List (List ℤ) = c.lay_out-all.new.places in
     let sixty-four : (i : ℕ) → i < 32 → length (get_or c.loop-k.lanes i []) ≡ 64 = let l = c.loop-k in lanes-long (shapes) (places) l.lanes l.indices l.all l.invariant.1.out c.args.vl l.invariant.0.good in
     let checked : let m = c in let l = m.loop-k in let a = m in let k = c.check_calculation-o in Cleared calculation.task a.args.vl (length l.memory) (eqb calculation.first calculation.second) (pattern_at (shapes) (places) calculation.first) (pattern_at (shapes) (places) calculation.second) (pattern_at (shapes) (places) calculation.destination) (get_or l.all calculation.first no_running) (get_or l.all calculation.second no_running) (get_or l.all calculation.destination no_running) (get_or l.indices calculation.first []) (get_or l.indices calculation.second []) (get_or l.indices calculation.destination []) k.new.1.1.1.1.1.1.1.1.1.1.1.1.0 k.new.1.1.1.1.1.1.1.1.1.1.1.1.1.0 k.new.1.1.1.1.1.1.1.1.1.1.1.1.1.1.0 k.new.1.1.1.1.1.1.1.1.1.1.1.1.1.1.1.0 (cond (eqb calculation.first calculation.second) k.new.1.1.1.1.1.1.1.1.1.1.1.1.1.1.1.0 k.new.1.1.1.1.1.1.1.1.1.1.1.1.1.1.1.1.0) k.new.1.1.1.1.1.1.1.1.1.1.1.1.1.1.1.1.1.0 k.result = let m = c in
     let l = m.loop-k in
@@ -210,8 +210,8 @@ pub carry_out-e-requires : goal.carry_out-e-requires
 carry_out-e-requires c =
     let named : Named (get_or c.args.body.steps c.loop-k.k no_step).calculation = named_here _ _ _ _ _ _ _ _ _ _ _ c.loop-k.invariant.0 c.loop-k-test.true (omega (arith, c.loop-open.invariant.0, c.loop-open.invariant.1)) in
     let calculation : Calculation = (get_or c.args.body.steps c.loop-k.k no_step).calculation in
-    let shapes : List (List ℕ) = c.lay_out-all.new.1.0 in
-    let places : List (List ℤ) = c.lay_out-all.new.1.1.0 in
+    let shapes : List (List ℕ) = c.lay_out-all.new.shapes in
+    let places : List (List ℤ) = c.lay_out-all.new.places in
     let fits : (i : ℕ) → i < 32 → Fit c.args.vl (pattern_at (shapes) (places) i) (get_or c.loop-k.indices i []) (get_or c.loop-k.all i no_running) = let l = c.loop-k in fit_at (shapes) (places) l.lanes l.indices l.all l.invariant.1.out c.args.vl l.invariant.0.good in
     let checked : let m = c in let l = m.loop-k in let a = m in let k = c.check_calculation-o in Cleared calculation.task a.args.vl (length l.memory) (eqb calculation.first calculation.second) (pattern_at (shapes) (places) calculation.first) (pattern_at (shapes) (places) calculation.second) (pattern_at (shapes) (places) calculation.destination) (get_or l.all calculation.first no_running) (get_or l.all calculation.second no_running) (get_or l.all calculation.destination no_running) (get_or l.indices calculation.first []) (get_or l.indices calculation.second []) (get_or l.indices calculation.destination []) k.new.1.1.1.1.1.1.1.1.1.1.1.1.0 k.new.1.1.1.1.1.1.1.1.1.1.1.1.1.0 k.new.1.1.1.1.1.1.1.1.1.1.1.1.1.1.0 k.new.1.1.1.1.1.1.1.1.1.1.1.1.1.1.1.0 (cond (eqb calculation.first calculation.second) k.new.1.1.1.1.1.1.1.1.1.1.1.1.1.1.1.0 k.new.1.1.1.1.1.1.1.1.1.1.1.1.1.1.1.1.0) k.new.1.1.1.1.1.1.1.1.1.1.1.1.1.1.1.1.1.0 k.result = let m = c in
     let l = m.loop-k in
@@ -343,8 +343,8 @@ pub loop-k-preserved : goal.loop-k-preserved
 loop-k-preserved c =
     let named : Named (get_or c.args.body.steps c.loop-k.k no_step).calculation = named_here _ _ _ _ _ _ _ _ _ _ _ c.loop-k.invariant.0 c.loop-k-test.true (omega (arith, c.loop-open.invariant.0, c.loop-open.invariant.1)) in
     let calculation : Calculation = (get_or c.args.body.steps c.loop-k.k no_step).calculation in
-    let shapes : List (List ℕ) = c.lay_out-all.new.1.0 in
-    let places : List (List ℤ) = c.lay_out-all.new.1.1.0 in
+    let shapes : List (List ℕ) = c.lay_out-all.new.shapes in
+    let places : List (List ℤ) = c.lay_out-all.new.places in
     let fits : (i : ℕ) → i < 32 → Fit c.args.vl (pattern_at (shapes) (places) i) (get_or c.loop-k.indices i []) (get_or c.loop-k.all i no_running) = let l = c.loop-k in fit_at (shapes) (places) l.lanes l.indices l.all l.invariant.1.out c.args.vl l.invariant.0.good in
     let sixty-four : (i : ℕ) → i < 32 → length (get_or c.loop-k.lanes i []) ≡ 64 = let l = c.loop-k in lanes-long (shapes) (places) l.lanes l.indices l.all l.invariant.1.out c.args.vl l.invariant.0.good in
     let checked : let m = c in let l = m.loop-k in let a = m in let k = c.check_calculation-o in Cleared calculation.task a.args.vl (length l.memory) (eqb calculation.first calculation.second) (pattern_at (shapes) (places) calculation.first) (pattern_at (shapes) (places) calculation.second) (pattern_at (shapes) (places) calculation.destination) (get_or l.all calculation.first no_running) (get_or l.all calculation.second no_running) (get_or l.all calculation.destination no_running) (get_or l.indices calculation.first []) (get_or l.indices calculation.second []) (get_or l.indices calculation.destination []) k.new.1.1.1.1.1.1.1.1.1.1.1.1.0 k.new.1.1.1.1.1.1.1.1.1.1.1.1.1.0 k.new.1.1.1.1.1.1.1.1.1.1.1.1.1.1.0 k.new.1.1.1.1.1.1.1.1.1.1.1.1.1.1.1.0 (cond (eqb calculation.first calculation.second) k.new.1.1.1.1.1.1.1.1.1.1.1.1.1.1.1.0 k.new.1.1.1.1.1.1.1.1.1.1.1.1.1.1.1.1.0) k.new.1.1.1.1.1.1.1.1.1.1.1.1.1.1.1.1.1.0 k.result = let m = c in
@@ -364,7 +364,7 @@ loop-k-preserved c =
     let fa = fits calculation.first named.first in
     let h = round calculation.task a.args.vl (eqb calculation.first calculation.second) (pattern_at (shapes) (places) calculation.first) (pattern_at (shapes) (places) calculation.second) (pattern_at (shapes) (places) calculation.destination) (get_or l.all calculation.first no_running) (get_or l.all calculation.second no_running) (get_or l.all calculation.destination no_running)
     (get_or l.indices calculation.first []) (get_or l.indices calculation.second []) (get_or l.indices calculation.destination []) k.new.1.1.1.1.1.1.1.1.1.1.1.1.0 k.new.1.1.1.1.1.1.1.1.1.1.1.1.1.0 k.new.1.1.1.1.1.1.1.1.1.1.1.1.1.1.0 k.new.1.1.1.1.1.1.1.1.1.1.1.1.1.1.1.0 (cond (eqb calculation.first calculation.second) k.new.1.1.1.1.1.1.1.1.1.1.1.1.1.1.1.0 k.new.1.1.1.1.1.1.1.1.1.1.1.1.1.1.1.1.0) k.new.1.1.1.1.1.1.1.1.1.1.1.1.1.1.1.1.1.0 k.result
-    (get_or l.lanes calculation.first []) (get_or l.lanes calculation.second []) (get_or l.lanes calculation.destination []) l.memory g (sixty-four calculation.first named.first) (sixty-four calculation.second named.second) (sixty-four calculation.destination named.destination) a.requires.0.0.0 e fa v.result v.new.1.1.1.1.1.1.1.1.1.1.1.1.0 v.new.1.1.1.1.1.1.1.1.1.1.1.1.1.0 v.new.1.1.1.1.1.1.1.1.1.1.1.1.1.1.0 v.new.1.1.1.1.1.1.1.1.1.1.1.1.1.1.1.0 v.ensures in
+    (get_or l.lanes calculation.first []) (get_or l.lanes calculation.second []) (get_or l.lanes calculation.destination []) l.memory g (sixty-four calculation.first named.first) (sixty-four calculation.second named.second) (sixty-four calculation.destination named.destination) a.requires.le_vl.0.0 e fa v.result v.new.1.1.1.1.1.1.1.1.1.1.1.1.0 v.new.1.1.1.1.1.1.1.1.1.1.1.1.1.0 v.new.1.1.1.1.1.1.1.1.1.1.1.1.1.1.0 v.new.1.1.1.1.1.1.1.1.1.1.1.1.1.1.1.0 v.ensures in
     let q = passing-on _ _ _ _ _ _ _ _ _ _ _ l.invariant.0 m.loop-k-test.true (omega (arith, o.invariant.0, o.invariant.1)) _ _ _ _ _
     (calculated-at (shapes) (places) l.lanes l.indices l.all l.invariant.1.out a.args.vl calculation.task l.memory calculation.first calculation.second calculation.destination named.first named.second named.destination _ _ _ _ v.new.1.1.1.1.1.1.1.1.1.1.1.1.1.1.1.0 h.0) e in
     let w = three-on (shapes) (places) l.lanes l.indices l.all l.invariant.1.out calculation.first calculation.second calculation.destination named.first named.second named.destination v.new.1.1.1.1.1.1.1.1.1.1.1.1.0 v.new.1.1.1.1.1.1.1.1.1.1.1.1.1.0 v.new.1.1.1.1.1.1.1.1.1.1.1.1.1.1.0 k.new.1.1.1.1.1.1.1.1.1.1.1.1.0 k.new.1.1.1.1.1.1.1.1.1.1.1.1.1.0 k.new.1.1.1.1.1.1.1.1.1.1.1.1.1.1.0 v.result.first v.result.second v.result.destination h.1.0 h.1.1.0 h.1.1.1 in (
@@ -385,11 +385,11 @@ overflow_add-passes c =
 
 pub offset_bounds-all-register-in-loop-open : goal.offset_bounds-all-register-in-loop-open
 offset_bounds-all-register-in-loop-open c =
-    omega (arith, c.requires.0.1.0)
+    omega (arith, c.requires.le_vl.1.0)
 
 pub bounds-all-register-in-loop-open : goal.bounds-all-register-in-loop-open
 bounds-all-register-in-loop-open c =
-    c.requires.0.1.0
+    c.requires.le_vl.1.0
 
 pub loop-open-smaller : goal.loop-open-smaller
 loop-open-smaller c =
@@ -404,7 +404,7 @@ loop-open-preserved c =
       o.invariant.0,
       o.invariant.1,
       passes_on _ _ _ _ _ _ _ _ _ _ o.invariant.2 c.loop-open-test.true _ _ _ _ l.invariant.0 c.loop-k-test.false o.invariant.0 _
-          (c.is_open-open-in-loop-open.ensures ∙ ap (λ r. is_open r.state) (sym (views-at y.new.1.0 y.new.1.1.0 l.lanes l.indices l.all s.args.register s.requires.0.1.0))),
+          (c.is_open-open-in-loop-open.ensures ∙ ap (λ r. is_open r.state) (sym (views-at y.new.1.0 y.new.1.1.0 l.lanes l.indices l.all s.args.register s.requires.le_vl.1.0))),
       l.invariant.1,
     )
 

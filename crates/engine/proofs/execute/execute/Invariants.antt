@@ -24,7 +24,7 @@ abbrev pub decreases-loop-k : goal.decreases-loop-k
 decreases-loop-k l = l.n - l.k
 
 abbrev pub invariant-loop-open : goal.invariant-loop-open
-invariant-loop-open l = (l.n ≤ 16) × (length l.steps ≡ 16) × Passes l.vl l.register (take l.n l.steps) (record { machine = l.m; l.memory = l.initial.memory }) (registers_in l.shapes l.places l.lanes l.indices l.all) l.memory l.passes l.calculations l.open
+invariant-loop-open l = (l.n ≤ 16) × (length l.steps ≡ 16) × Passes l.vl l.register (take l.n l.steps) (record { machine = l.m; memory = l.initial.memory }) (registers_in l.shapes l.places l.lanes l.indices l.all) l.memory l.passes l.calculations l.open
     × Laid l.shapes l.places l.lanes l.indices l.all l.xs l.ys l.zs l.len l.memory
 
 abbrev pub decreases-loop-open : goal.decreases-loop-open

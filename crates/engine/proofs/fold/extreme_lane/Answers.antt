@@ -19,7 +19,7 @@ load-first-requires c =
 
 pub taken_through-requires : goal.taken_through-requires
 taken_through-requires c =
-    let s = c in ((s.requires.0, (omega arith, s.requires.1)), c.load-first.ensures.1)
+    let s = c in record { le_width = (s.requires.0, (omega arith, s.requires.1)); start_bound = c.load-first.ensures.1 }
 
 pub returns : goal.returns
 unfolding extreme

@@ -11,7 +11,7 @@ use Rattle.engine.proofs.fold.fold_lanes.Goals as goal
 
 pub taken_through-requires : goal.taken_through-requires
 taken_through-requires c =
-    let s = c in ((s.requires.0, (omega arith, s.requires.1)), pow_pos (8 * s.args.width))
+    let s = c in record { le_width = (s.requires.0, (omega arith, s.requires.1)); start_bound = pow_pos (8 * s.args.width) }
 
 pub returns-in-Sum : goal.returns-in-Sum
 returns-in-Sum c =

@@ -10,21 +10,21 @@ use Rattle.engine.proofs.fold.taken_through.Goals as goal
 
 pub loop-k-init : goal.loop-k-init
 loop-k-init c =
-    (omega arith, c.requires.0.1.0, few-lanes c.args.n c.args.width c.requires.0.0.0 c.requires.0.1.1, c.requires.1, refl)
+    (omega arith, c.requires.le_width.1.0, few-lanes c.args.n c.args.width c.requires.le_width.0.0 c.requires.le_width.1.1, c.requires.start_bound, refl)
 
 pub overflow_mul-k : goal.overflow_mul-k
 overflow_mul-k c =
-    let s = c in omega (arith, lane_room c.loop-k.k s.args.n s.args.width 64 (omega arith) s.requires.0.1.1)
+    let s = c in omega (arith, lane_room c.loop-k.k s.args.n s.args.width 64 (omega arith) s.requires.le_width.1.1)
 
 pub load-x-requires : goal.load-x-requires
 load-x-requires c =
     let s = c in
     let m : length s.args.lanes.now ≡ 64 = search rules in
-    (omega (arith, lane_room c.loop-k.k s.args.n s.args.width 64 (omega arith) s.requires.0.1.1), s.requires.0.0.1)
+    (omega (arith, lane_room c.loop-k.k s.args.n s.args.width 64 (omega arith) s.requires.le_width.1.1), s.requires.le_width.0.1)
 
 pub lane-left-requires : goal.lane-left-requires
 lane-left-requires c =
-    (c.requires.0.0, (c.loop-k.invariant.3, c.load-x.ensures.1))
+    (c.requires.le_width.0, (c.loop-k.invariant.3, c.load-x.ensures.1))
 
 pub loop-k-preserved : goal.loop-k-preserved
 loop-k-preserved c =

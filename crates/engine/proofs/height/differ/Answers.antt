@@ -19,7 +19,7 @@ one_more (suc d) u v p a b e h =
 
 pub loop-d-init : goal.loop-d-init
 loop-d-init c =
-    (omega arith, search rules, search rules, all-gone c.args.t1 (search rules) ∙ sym (all-gone c.args.t2 (search rules)))
+    (omega arith, search rules, search rules, all-gone c.args.v (search rules) ∙ sym (all-gone c.args.t2 (search rules)))
 
 pub returns-then-i-j : goal.returns-then-i-j
 returns-then-i-j c =

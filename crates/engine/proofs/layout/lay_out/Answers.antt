@@ -9,10 +9,10 @@ loop-k-init c =
     let s = c in (
       omega arith,
       record {
-        shapes32 = s.requires.1.0.0;
-        places32 = s.requires.1.0.1;
-        lanes32 = s.requires.1.1.0;
-        indices32 = s.requires.1.1.1;
+        shapes32 = s.requires.shapes_len.0.0;
+        places32 = s.requires.shapes_len.0.1;
+        lanes32 = s.requires.shapes_len.1.0;
+        indices32 = s.requires.shapes_len.1.1;
         all32 = refl;
         same = λ i h. absurd (omega arith);
         remembers = λ i h. absurd (omega arith);
@@ -26,7 +26,7 @@ started-q-requires c =
     let shape = c.shape_row_lem in
     let place = c.place_row-place in (
       same-pattern (get_or s.args.m.registers k no_register).pattern shape.result place.result shape.ensures place.ensures,
-      (s.requires.0.0, s.requires.0.1.good k (omega (arith, c.loop-k-test.true))),
+      (s.requires.by_index.0, s.requires.by_index.1.good k (omega (arith, c.loop-k-test.true))),
     )
 
 pub loop-k-preserved : goal.loop-k-preserved
@@ -46,7 +46,4 @@ pub returns : goal.returns
 returns c =
     let s = c in
     let rs = s.args.m.registers in
-    let l = c.loop-k in (
-      laid-all rs l.k l.shapes l.places l.lanes l.indices l.all l.invariant.1 (omega arith),
-      laid_same rs l.k l.shapes l.places l.lanes l.indices l.all l.invariant.1 (omega arith) s.requires.0.1.all,
-    )
+    let l = c.loop-k in record { laid_out = laid-all rs l.k l.shapes l.places l.lanes l.indices l.all l.invariant.1 (omega arith); result_after = laid_same rs l.k l.shapes l.places l.lanes l.indices l.all l.invariant.1 (omega arith) s.requires.by_index.1.all }

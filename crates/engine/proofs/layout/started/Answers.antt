@@ -41,7 +41,7 @@ spot_at-here-requires c =
     let s = c in
     let r = s.args.r in
     let g = s.requires.1.1 in
-    ((subst RangedPattern (sym s.requires.0) g.pattern, (width-most r.width g.width, small)), ap not c.holds-held.ensures)
+    record { ranged_pattern = (subst RangedPattern (sym s.requires.0) g.pattern, (width-most r.width g.width, small)); empty_value = ap not c.holds-held.ensures }
 
 pub returns-then-is_open : goal.returns-then-is_open
 returns-then-is_open c =

@@ -13,46 +13,46 @@ use Rattle.engine.proofs.leave.leave_row.Goals as goal
 
 pub overflow_add-result : goal.overflow_add-result
 overflow_add-result c =
-    let a = c in omega (arith, a.requires.0.1.1.ranged.dims)
+    let a = c in omega (arith, a.requires.ranged_pattern.1.1.ranged.dims)
 
 pub returns-then-not-next : goal.returns-then-not-next
 returns-then-not-next c =
     let a = c in
     let s = shape_in a.args.shape.now in
-    let n = c.next_stop-next in (
-      λ k q e.
+    let n = c.next_stop-next in record {
+      by_index = λ k q e.
           let st = n.ensures k q e in
           let z : ltb (suc k) (length (stops s)) ≡ false = sym st.told ∙ c.if-not-next.true in
-          record { told = sym z; here = λ t. never t; high = sym (height-none s k (ltb-false _ _ z)) },
-      λ t. refl,
-    )
+          record { told = sym z; here = λ t. never t; high = sym (height-none s k (ltb-false _ _ z)) };
+      index_after = λ t. refl;
+    }
 
 pub spot_at-spot-requires : goal.spot_at-spot-requires
 spot_at-spot-requires c =
-    let found : Stop (shape_in c.args.shape.now) c.next_stop-next.new.1.0 c.next_stop-next.result.empty = let e = c.requires.1 in
+    let found : Stop (shape_in c.args.shape.now) c.next_stop-next.new.index c.next_stop-next.result.empty = let e = c.requires.stop in
     let n = c.next_stop-next in
     let t : n.result.found ≡ true = c.if-not-next.false in
     let st = n.ensures e.position e.below e.here in
     record { position = suc e.position; below = ltb-true _ _ (sym st.told ∙ t); here = st.here t; told = st.nothing t } in
     let a = c in
     let s = shape_in a.args.shape.now in
-    let y = a.requires.0.1.1 in
+    let y = a.requires.ranged_pattern.1.1 in
     let f = found in
-    ((a.requires.0.0, (a.requires.0.1.0, λ k. omega (arith, here-small s y _ _ f k))), held-told s y _ _ f)
+    record { ranged_pattern = (a.requires.ranged_pattern.0, (a.requires.ranged_pattern.1.0, λ k. omega (arith, here-small s y _ _ f k))); empty_value = held-told s y _ _ f }
 
 pub returns : goal.returns
 returns c =
     let a = c in
     let s = shape_in a.args.shape.now in
     let n = c.next_stop-next in
-    let t : n.result.found ≡ true = c.if-not-next.false in (
-      λ k q e.
+    let t : n.result.found ≡ true = c.if-not-next.false in record {
+      by_index = λ k q e.
           let st = n.ensures k q e in
           let f = st.here t in
           record {
             told = sym t ∙ st.told;
             here = λ u. c.spot_at-spot.ensures ∙ ap (place_at (pattern_in a.args.shape.now a.args.places.now) a.args.width) f;
-            high = c.differ.ensures.0 ∙ sym (height-next s a.requires.0.1.1 k q _ e _ (ltb-true _ _ (sym st.told ∙ t)) f);
-          },
-      λ z. never (sym z),
-    )
+            high = c.differ.ensures.0 ∙ sym (height-next s a.requires.ranged_pattern.1.1 k q _ e _ (ltb-true _ _ (sym st.told ∙ t)) f);
+          };
+      index_after = λ z. never (sym z);
+    }

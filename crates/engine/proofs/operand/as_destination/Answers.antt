@@ -14,34 +14,34 @@ returns-then-not-is_open c =
     let e = sym c.is_open.ensures ∙ c.if-not-is_open.true in
     let p = pattern_in a.args.shape.now a.args.places.now in
     subst (Taken p a.args.index.now a.args.r a.args.n a.args.n a.args.index.now a.args.parts.now) (sym c.unmoved.ensures)
-    (taken-plain p a.args.index.now a.args.r a.args.n a.args.n a.args.parts.now e a.requires.1.1 a.requires.0.1)
+    (taken-plain p a.args.index.now a.args.r a.args.n a.args.n a.args.parts.now e a.requires.ready.1 a.requires.n_bound.1)
 
 pub stays-requires : goal.stays-requires
 stays-requires c =
     let live : is_open c.args.r.state ≡ true = sym c.is_open.ensures ∙ c.if-not-is_open.false in
-    let a = c in (row-requires _ a.args.index.now a.args.r a.args.n a.args.n a.args.parts.now a.requires.0 a.requires.1 (live)).1
+    let a = c in (row-requires _ a.args.index.now a.args.r a.args.n a.args.n a.args.parts.now a.requires.n_bound a.requires.ready (live)).1
 
 pub in_row-requires : goal.in_row-requires
 in_row-requires c =
     let live : is_open c.args.r.state ≡ true = sym c.is_open.ensures ∙ c.if-not-is_open.false in
     let a = c in
-    (row-requires _ a.args.index.now a.args.r a.args.n a.args.n a.args.parts.now a.requires.0 a.requires.1 (live), a.requires.0.1)
+    (row-requires _ a.args.index.now a.args.r a.args.n a.args.n a.args.parts.now a.requires.n_bound a.requires.ready (live), a.requires.n_bound.1)
 
 pub returns-then-stays : goal.returns-then-stays
 returns-then-stays c =
     let live : is_open c.args.r.state ≡ true = sym c.is_open.ensures ∙ c.if-not-is_open.false in
     let a = c in
-    row-taken _ a.args.index.now a.args.r a.args.n a.args.n a.args.parts.now a.requires.0 a.requires.1 (live)
-    (c.stays.ensures c.if-stays.true) _ _ c.in_row.ensures.0 c.in_row.ensures.1
+    row-taken _ a.args.index.now a.args.r a.args.n a.args.n a.args.parts.now a.requires.n_bound a.requires.ready (live)
+    (c.stays.ensures c.if-stays.true) _ _ c.in_row.ensures.value c.in_row.ensures.parts_after
 
 pub across-requires : goal.across-requires
 across-requires c =
     let live : is_open c.args.r.state ≡ true = sym c.is_open.ensures ∙ c.if-not-is_open.false in
     let a = c in
-    across-requires _ a.args.index.now a.args.r a.args.n a.args.n a.args.parts.now a.requires.0 a.requires.1 (live) _ c.again.ensures
+    across-requires _ a.args.index.now a.args.r a.args.n a.args.n a.args.parts.now a.requires.n_bound a.requires.ready (live) _ c.again.ensures
 
 pub returns : goal.returns
 returns c =
     let live : is_open c.args.r.state ≡ true = sym c.is_open.ensures ∙ c.if-not-is_open.false in
     let a = c in
-    across-taken _ a.args.index.now a.args.r a.args.n a.args.n a.args.parts.now a.requires.0 a.requires.1 (live) _ c.again.ensures _ _ _ c.across.ensures
+    across-taken _ a.args.index.now a.args.r a.args.n a.args.n a.args.parts.now a.requires.n_bound a.requires.ready (live) _ c.again.ensures _ _ _ c.across.ensures

@@ -5,8 +5,8 @@ use Rattle.engine.proofs.operand.second_source.Goals as goal
 
 pub returns-then-same : goal.returns-then-same
 returns-then-same c =
-    let a = c in let e = c.if-same.true in (rw e (a.requires.1.1 e), (a.requires.0.1, λ t. refl))
+    let a = c in let e = c.if-same.true in record { taken_2 = rw e (a.requires.ready.1 e); parts_len = (a.requires.most_bound.1, λ t. refl) }
 
 pub returns : goal.returns
 returns c =
-    let e = c.if-same.false in (rw e c.as_source.ensures, (c.as_source.ensures.long, λ t. never (sym e ∙ t)))
+    let e = c.if-same.false in record { taken_2 = rw e c.as_source.ensures; parts_len = (c.as_source.ensures.long, λ t. never (sym e ∙ t)) }

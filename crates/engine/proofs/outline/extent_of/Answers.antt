@@ -24,7 +24,7 @@ first-requires c =
 
 pub returns-then-not-first : goal.returns-then-not-first
 returns-then-not-first c =
-    let at-start : Stands c.args.p.shape 0 c.first.result c.first.new.1.0 = subst (λ s. Stands s 0 c.first.result c.first.new.1.0) c.shape_row_lem.ensures c.first.ensures in
+    let at-start : Stands c.args.p.shape 0 c.first.result c.first.new.index.0 = subst (λ s. Stands s 0 c.first.result c.first.new.index.0) c.shape_row_lem.ensures c.first.ensures in
     let a = c in
     let st = at-start in
     let h : length (elements a.args.p.shape) ≤ 0 = ltb-false _ _ (sym st.told ∙ c.if-not-first.true) in
@@ -34,14 +34,14 @@ pub address-from-requires : goal.address-from-requires
 address-from-requires c =
     let pattern : pattern_in c.shape_row_lem.result c.place_row-places.result ≡ c.args.p = pattern-of c.args.p c.shape_row_lem.result c.place_row-places.result c.shape_row_lem.ensures c.place_row-places.ensures in
     let ranged : RangedPattern (pattern_in c.shape_row_lem.result c.place_row-places.result) = subst RangedPattern (sym (pattern)) c.requires.0 in
-    let at-start : Stands c.args.p.shape 0 c.first.result c.first.new.1.0 = subst (λ s. Stands s 0 c.first.result c.first.new.1.0) c.shape_row_lem.ensures c.first.ensures in
-    let at_first : Stands c.args.p.shape 0 true c.first.new.1.0 = found (c.if-not-first.false) (at-start) in
+    let at-start : Stands c.args.p.shape 0 c.first.result c.first.new.index.0 = subst (λ s. Stands s 0 c.first.result c.first.new.index.0) c.shape_row_lem.ensures c.first.ensures in
+    let at_first : Stands c.args.p.shape 0 true c.first.new.index.0 = found (c.if-not-first.false) (at-start) in
     let a = c in (ranged, a.requires.1, small (at_first) a.requires.2)
 
 pub loop-index-init : goal.loop-index-init
 loop-index-init c =
-    let at-start : Stands c.args.p.shape 0 c.first.result c.first.new.1.0 = subst (λ s. Stands s 0 c.first.result c.first.new.1.0) c.shape_row_lem.ensures c.first.ensures in
-    let at_first : Stands c.args.p.shape 0 true c.first.new.1.0 = found (c.if-not-first.false) (at-start) in
+    let at-start : Stands c.args.p.shape 0 c.first.result c.first.new.index.0 = subst (λ s. Stands s 0 c.first.result c.first.new.index.0) c.shape_row_lem.ensures c.first.ensures in
+    let at_first : Stands c.args.p.shape 0 true c.first.new.index.0 = found (c.if-not-first.false) (at-start) in
     at_first
 
 pub next-requires : goal.next-requires
@@ -62,10 +62,10 @@ address-requires c =
 pub returns-then-not-next : goal.returns-then-not-next
 returns-then-not-next c =
     let pattern : pattern_in c.shape_row_lem.result c.place_row-places.result ≡ c.args.p = pattern-of c.args.p c.shape_row_lem.result c.place_row-places.result c.shape_row_lem.ensures c.place_row-places.ensures in
-    let at-start : Stands c.args.p.shape 0 c.first.result c.first.new.1.0 = subst (λ s. Stands s 0 c.first.result c.first.new.1.0) c.shape_row_lem.ensures c.first.ensures in
-    let at_first : Stands c.args.p.shape 0 true c.first.new.1.0 = found (c.if-not-first.false) (at-start) in
-    let at_next : Stands c.args.p.shape (suc c.loop-index.position) c.next.result c.next.new.1.0 = let l = c.loop-index in
-    subst (λ s. (k : ℕ) → k < length (elements s) → l.index ≡ index_of (get_or (elements s) k []) → Stands s (suc k) c.next.result c.next.new.1.0)
+    let at-start : Stands c.args.p.shape 0 c.first.result c.first.new.index.0 = subst (λ s. Stands s 0 c.first.result c.first.new.index.0) c.shape_row_lem.ensures c.first.ensures in
+    let at_first : Stands c.args.p.shape 0 true c.first.new.index.0 = found (c.if-not-first.false) (at-start) in
+    let at_next : Stands c.args.p.shape (suc c.loop-index.position) c.next.result c.next.new.index.0 = let l = c.loop-index in
+    subst (λ s. (k : ℕ) → k < length (elements s) → l.index ≡ index_of (get_or (elements s) k []) → Stands s (suc k) c.next.result c.next.new.index.0)
     c.shape_row_lem.ensures c.next.ensures l.position (below l.invariant) (l.invariant.here refl) in
     let a = c in
     let l = c.loop-index in
@@ -75,7 +75,7 @@ returns-then-not-next c =
     let n : length (elements p.shape) ≤ suc l.position = ltb-false _ _ (sym st.told ∙ c.if-not-next.true) in
     let e : length (elements p.shape) ≡ suc l.position = omega (arith, below l.invariant) in
     (λ i. extent p.shape.dims p.shape.mods (add-one l.position i)
-    (record { 0 = (c.address-from.ensures.exact ∙ ap (λ q. address q w c.first.new.1.0) (pattern) ∙ lies p w (at_first) a.requires.2) i })
+    (record { 0 = (c.address-from.ensures.exact ∙ ap (λ q. address q w c.first.new.index.0) (pattern) ∙ lies p w (at_first) a.requires.2) i })
     (record { 0 = (c.address.ensures.exact ∙ ap (λ q. address q w l.index) (pattern) ∙ lies p w l.invariant a.requires.2) i }))
     ∙ sym (extent-some p w l.position e)
 
@@ -89,7 +89,7 @@ loop-index-smaller c =
 
 pub loop-index-preserved : goal.loop-index-preserved
 loop-index-preserved c =
-    let at_next : Stands c.args.p.shape (suc c.loop-index.position) c.next.result c.next.new.1.0 = let l = c.loop-index in
-    subst (λ s. (k : ℕ) → k < length (elements s) → l.index ≡ index_of (get_or (elements s) k []) → Stands s (suc k) c.next.result c.next.new.1.0)
+    let at_next : Stands c.args.p.shape (suc c.loop-index.position) c.next.result c.next.new.index.0 = let l = c.loop-index in
+    subst (λ s. (k : ℕ) → k < length (elements s) → l.index ≡ index_of (get_or (elements s) k []) → Stands s (suc k) c.next.result c.next.new.index.0)
     c.shape_row_lem.ensures c.next.ensures l.position (below l.invariant) (l.invariant.here refl) in
     rw (add-one c.loop-index.position) (found (c.if-not-next.false) (at_next))

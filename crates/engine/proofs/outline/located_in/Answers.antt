@@ -18,15 +18,15 @@ nth_stop-here-requires c =
 
 pub returns-then-not-here : goal.returns-then-not-here
 returns-then-not-here c =
-    let at-nth : Arrives c.args.p.shape c.args.n c.nth_stop-here.result.found c.nth_stop-here.result.empty c.nth_stop-here.new.1.0 = subst (λ s. Arrives s c.args.n c.nth_stop-here.result.found c.nth_stop-here.result.empty c.nth_stop-here.new.1.0) c.shape_row_lem.ensures c.nth_stop-here.ensures in
+    let at-nth : Arrives c.args.p.shape c.args.n c.nth_stop-here.result.found c.nth_stop-here.result.empty c.nth_stop-here.new.index = subst (λ s. Arrives s c.args.n c.nth_stop-here.result.found c.nth_stop-here.result.empty c.nth_stop-here.new.index) c.shape_row_lem.ensures c.nth_stop-here.ensures in
     let a = c.args in
     let n = c.nth_stop-here in
     sym (located-none a.p a.width a.n (ltb-false _ _ (sym at-nth.told ∙ c.if-not-here.true)))
 
 pub returns-then-here : goal.returns-then-here
 returns-then-here c =
-    let at-nth : Arrives c.args.p.shape c.args.n c.nth_stop-here.result.found c.nth_stop-here.result.empty c.nth_stop-here.new.1.0 = subst (λ s. Arrives s c.args.n c.nth_stop-here.result.found c.nth_stop-here.result.empty c.nth_stop-here.new.1.0) c.shape_row_lem.ensures c.nth_stop-here.ensures in
-    let at-found : Arrives c.args.p.shape c.args.n true c.nth_stop-here.result.empty c.nth_stop-here.new.1.0 = let n = c.nth_stop-here in
+    let at-nth : Arrives c.args.p.shape c.args.n c.nth_stop-here.result.found c.nth_stop-here.result.empty c.nth_stop-here.new.index = subst (λ s. Arrives s c.args.n c.nth_stop-here.result.found c.nth_stop-here.result.empty c.nth_stop-here.new.index) c.shape_row_lem.ensures c.nth_stop-here.ensures in
+    let at-found : Arrives c.args.p.shape c.args.n true c.nth_stop-here.result.empty c.nth_stop-here.new.index = let n = c.nth_stop-here in
     let a = c.args in
     subst (λ b. Arrives a.p.shape a.n b n.result.empty n.new.1.0) (c.if-not-here.false) (at-nth) in
     let a = c.args in
@@ -36,8 +36,8 @@ returns-then-here c =
 pub address-requires : goal.address-requires
 address-requires c =
     let pattern : pattern_in c.shape_row_lem.result c.place_row-places.result ≡ c.args.p = pattern-of c.args.p c.shape_row_lem.result c.place_row-places.result c.shape_row_lem.ensures c.place_row-places.ensures in
-    let at-nth : Arrives c.args.p.shape c.args.n c.nth_stop-here.result.found c.nth_stop-here.result.empty c.nth_stop-here.new.1.0 = subst (λ s. Arrives s c.args.n c.nth_stop-here.result.found c.nth_stop-here.result.empty c.nth_stop-here.new.1.0) c.shape_row_lem.ensures c.nth_stop-here.ensures in
-    let at-found : Arrives c.args.p.shape c.args.n true c.nth_stop-here.result.empty c.nth_stop-here.new.1.0 = let n = c.nth_stop-here in
+    let at-nth : Arrives c.args.p.shape c.args.n c.nth_stop-here.result.found c.nth_stop-here.result.empty c.nth_stop-here.new.index = subst (λ s. Arrives s c.args.n c.nth_stop-here.result.found c.nth_stop-here.result.empty c.nth_stop-here.new.index) c.shape_row_lem.ensures c.nth_stop-here.ensures in
+    let at-found : Arrives c.args.p.shape c.args.n true c.nth_stop-here.result.empty c.nth_stop-here.new.index = let n = c.nth_stop-here in
     let a = c.args in
     subst (λ b. Arrives a.p.shape a.n b n.result.empty n.new.1.0) (c.if-not-here.false) (at-nth) in
     let a = c in
@@ -47,14 +47,14 @@ address-requires c =
 pub returns : goal.returns
 returns c =
     let pattern : pattern_in c.shape_row_lem.result c.place_row-places.result ≡ c.args.p = pattern-of c.args.p c.shape_row_lem.result c.place_row-places.result c.shape_row_lem.ensures c.place_row-places.ensures in
-    let at-nth : Arrives c.args.p.shape c.args.n c.nth_stop-here.result.found c.nth_stop-here.result.empty c.nth_stop-here.new.1.0 = subst (λ s. Arrives s c.args.n c.nth_stop-here.result.found c.nth_stop-here.result.empty c.nth_stop-here.new.1.0) c.shape_row_lem.ensures c.nth_stop-here.ensures in
-    let at-found : Arrives c.args.p.shape c.args.n true c.nth_stop-here.result.empty c.nth_stop-here.new.1.0 = let n = c.nth_stop-here in
+    let at-nth : Arrives c.args.p.shape c.args.n c.nth_stop-here.result.found c.nth_stop-here.result.empty c.nth_stop-here.new.index = subst (λ s. Arrives s c.args.n c.nth_stop-here.result.found c.nth_stop-here.result.empty c.nth_stop-here.new.index) c.shape_row_lem.ensures c.nth_stop-here.ensures in
+    let at-found : Arrives c.args.p.shape c.args.n true c.nth_stop-here.result.empty c.nth_stop-here.new.index = let n = c.nth_stop-here in
     let a = c.args in
     subst (λ b. Arrives a.p.shape a.n b n.result.empty n.new.1.0) (c.if-not-here.false) (at-nth) in
     let a = c in
     let st = at-found in
     ap (λ z. At (record { 0 = z }))
     (c.address.ensures.exact
-    ∙ ap (λ q. address q a.args.width c.nth_stop-here.new.1.0) (pattern)
+    ∙ ap (λ q. address q a.args.width c.nth_stop-here.new.index) (pattern)
     ∙ stop-lies a.args.p a.args.width st a.requires.2)
     ∙ sym (located-some a.args.p a.args.width a.args.n (stop-below st) (sym (st.nothing refl) ∙ c.if-here.false))

@@ -6,11 +6,8 @@ use Rattle.engine.specs.Registers.{index_of}
 use Rattle.engine.specs.Rows.{shape_in}
 use Rattle.engine.specs.IndexLaws.{index-length, size-index}
 use Rattle.engine.specs.declared.stream.Shape.{Shape}
+use Rattle.engine.proofs.place.holds.Invariants.{left}
 use Rattle.engine.proofs.place.holds.Goals as goal
-
--- what is left to look at from dimension d on
-abbrev left : Shape → List ℕ → ℕ → Bool
-left s v d = is_element (size_at s) d (drop d (take s.dims v))
 
 module _ (s : Shape) (v : List ℕ) (e : v ≡ index_of (take s.dims v)) (m : s.dims ≤ 7) where
   long : length (take s.dims v) ≡ s.dims

@@ -8,6 +8,10 @@ use Rattle.engine.specs.IndexLaws.{index-length, size-index}
 use Rattle.engine.specs.declared.stream.Shape.{Shape}
 use Rattle.engine.proofs.place.holds.Given as goal
 
+-- what is left to look at from dimension d on
+abbrev pub left : Shape → List ℕ → ℕ → Bool
+left s v d = is_element (size_at s) d (drop d (take s.dims v))
+
 abbrev pub invariant-loop-d : goal.invariant-loop-d
 invariant-loop-d l = (left (shape_in l.shape) l.index l.d ≡ left (shape_in l.shape) l.index 0) × (l.d ≤ l.n) × (l.n ≡ (shape_in l.shape).dims)
 

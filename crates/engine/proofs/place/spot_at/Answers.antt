@@ -13,7 +13,7 @@ either false n = refl
 
 pub row_size-size-requires : goal.row_size-size-requires
 row_size-size-requires c =
-    (c.requires.0.0.shape, c.requires.0.1.1)
+    (c.requires.ranged_pattern.0.shape, c.requires.ranged_pattern.1.1)
 
 pub returns : goal.returns
 returns c =
@@ -23,6 +23,6 @@ returns c =
     let v = a.args.index.now in
     let step = c.in_bytes-along.ensures.exact ∙ ap (λ t. in_bytes t 1 w) c.stride_at-stride.ensures.exact in
     let size = c.row_size-size.ensures
-    ∙ ap (λ b. cond b 0 (size_at (shape_in row) 0 (drop 1 v))) a.requires.1
+    ∙ ap (λ b. cond b 0 (size_at (shape_in row) 0 (drop 1 v))) a.requires.empty_value
     ∙ either (is_element (size_at (shape_in row)) 0 (take (shape_in row).dims v)) (size_at (shape_in row) 0 (drop 1 v)) in
     λ i. record { index = v; address = record { 0 = c.address-here.ensures.exact i }; size = size i; step = record { 0 = step i } }

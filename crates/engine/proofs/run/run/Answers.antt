@@ -17,7 +17,7 @@ execute-requires c =
     let o = c.operations-p.ensures in
     let r = ready c.args.vl c.args.sheet.now c.args.memory.now c.fresh_machine-fresh.result c.fresh_machine-fresh.ensures c.operations-p.result c.operations-p.ensures.0 (λ i. (c.shared_slice_known-1.given i).fits) _ c.in-Runs.is in
     let v = allowed-length c.args.vl (length c.args.memory.now) (sym c.is_allowed.ensures ∙ c.if-not-is_allowed.false) in
-    ((v, (r.0, o.1)), (r.1, (r.2, r.3)))
+    record { le_vl = (v, (r.0, o.1)); all_named = (r.1, (r.2, r.3)) }
 
 pub returns-in-Over : goal.returns-in-Over
 returns-in-Over c =

@@ -11,7 +11,7 @@ use Rattle.engine.proofs.SheetSteps.{ops-none, ops-out, ops-refused, ops-run, op
 use Rattle.engine.proofs.sheet.operations.Given as goal
 
 abbrev pub invariant-loop-left : goal.invariant-loop-left
-invariant-loop-left l = ((vl : ℕ) × AllGood vl (record { l.registers = l.registers })) × (l.body.count ≤ 16) × (operations_from l.left l.s l.at (record { l.registers = l.registers }) ≡ operations_from l.most l.s 0 (record { l.registers = l.initial.registers }))
+invariant-loop-left l = ((vl : ℕ) × AllGood vl (record { registers = l.registers })) × (l.body.count ≤ 16) × (operations_from l.left l.s l.at (record { registers = l.registers }) ≡ operations_from l.most l.s 0 (record { registers = l.initial.registers }))
 
 abbrev pub decreases-loop-left : goal.decreases-loop-left
 decreases-loop-left l = l.left

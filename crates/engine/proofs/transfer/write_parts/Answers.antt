@@ -14,29 +14,29 @@ loop-k-init c =
 
 pub start_of-start-requires : goal.start_of-start-requires
 start_of-start-requires c =
-    let part : Part (get_or c.args.parts.now c.loop-k.k []) = c.requires.0.1 c.loop-k.k c.loop-k-test.true in
+    let part : Part (get_or c.args.parts.now c.loop-k.k []) = c.requires.m_bound.1 c.loop-k.k c.loop-k-test.true in
     let there : c.loop-k.k < length c.args.parts.now = part-there c.args.parts.now c.loop-k.k part.three in
     (there, part.three)
 
 pub step_of-step-requires : goal.step_of-step-requires
 step_of-step-requires c =
-    let part : Part (get_or c.args.parts.now c.loop-k.k []) = c.requires.0.1 c.loop-k.k c.loop-k-test.true in
+    let part : Part (get_or c.args.parts.now c.loop-k.k []) = c.requires.m_bound.1 c.loop-k.k c.loop-k-test.true in
     let there : c.loop-k.k < length c.args.parts.now = part-there c.args.parts.now c.loop-k.k part.three in
     (there, part.three)
 
 pub count_of-n-requires : goal.count_of-n-requires
 count_of-n-requires c =
-    let part : Part (get_or c.args.parts.now c.loop-k.k []) = c.requires.0.1 c.loop-k.k c.loop-k-test.true in
+    let part : Part (get_or c.args.parts.now c.loop-k.k []) = c.requires.m_bound.1 c.loop-k.k c.loop-k-test.true in
     let there : c.loop-k.k < length c.args.parts.now = part-there c.args.parts.now c.loop-k.k part.three in
     (there, part)
 
 pub write_part-requires : goal.write_part-requires
 write_part-requires c =
-    let part : Part (get_or c.args.parts.now c.loop-k.k []) = c.requires.0.1 c.loop-k.k c.loop-k-test.true in
+    let part : Part (get_or c.args.parts.now c.loop-k.k []) = c.requires.m_bound.1 c.loop-k.k c.loop-k-test.true in
     let row : progression c.start_of_lem.result.0 c.step_of_lem.result.0 c.count_of-n.result ≡ addresses_in (get_or c.args.parts.now c.loop-k.k []) = part-is (get_or c.args.parts.now c.loop-k.k []) c.start_of_lem.ensures c.step_of_lem.ensures c.count_of-n.ensures in
     let room : c.loop-k.at * c.args.width + c.count_of-n.result * c.args.width ≤ 64 = let i = c in
     let s = i in
-    lanes-room s.args.parts.now i.loop-k.k s.args.m s.args.width (omega arith) (parts-there s.args.parts.now s.args.m s.requires.0.1) i.loop-k.invariant.1 c.count_of-n.ensures s.requires.1.0.1 in
+    lanes-room s.args.parts.now i.loop-k.k s.args.m s.args.width (omega arith) (parts-there s.args.parts.now s.args.m s.requires.m_bound.1) i.loop-k.invariant.1 c.count_of-n.ensures s.requires.le_width.0.1 in
     let d = c in
     let i = d in
     let s = i in
@@ -44,8 +44,8 @@ write_part-requires c =
     let l = i.loop-k in
     let p = part in
     let w : all_within (length a.memory.now) a.width (addresses_in (get_or a.parts.now l.k [])) ≡ true =
-    part-inside (length a.memory.now) a.width a.parts.now l.k a.m (omega arith) (parts-there a.parts.now a.m s.requires.0.1) s.requires.1.1 in (
-      (s.requires.1.0.0, room),
+    part-inside (length a.memory.now) a.width a.parts.now l.k a.m (omega arith) (parts-there a.parts.now a.m s.requires.m_bound.1) s.requires.le_width.1 in (
+      (s.requires.le_width.0.0, room),
       (
         (rw d.start_of_lem.ensures p.start, rw d.step_of_lem.ensures p.step),
         ap (all_within (length l.memory) a.width) (row) ∙ ap (λ len. all_within len a.width (addresses_in (get_or a.parts.now l.k []))) l.invariant.2 ∙ w,
@@ -56,15 +56,15 @@ pub overflow_add-at : goal.overflow_add-at
 overflow_add-at c =
     let room : c.loop-k.at * c.args.width + c.count_of-n.result * c.args.width ≤ 64 = let i = c in
     let s = i in
-    lanes-room s.args.parts.now i.loop-k.k s.args.m s.args.width (omega arith) (parts-there s.args.parts.now s.args.m s.requires.0.1) i.loop-k.invariant.1 c.count_of-n.ensures s.requires.1.0.1 in
+    lanes-room s.args.parts.now i.loop-k.k s.args.m s.args.width (omega arith) (parts-there s.args.parts.now s.args.m s.requires.m_bound.1) i.loop-k.invariant.1 c.count_of-n.ensures s.requires.le_width.0.1 in
     let few : (c.loop-k.at ≤ 64) × (c.count_of-n.result ≤ 64) = let s = c in
     let h = room in
-    (few-lanes c.loop-k.at s.args.width s.requires.1.0.0.0 (omega arith), few-lanes c.count_of-n.result s.args.width s.requires.1.0.0.0 (omega arith)) in
+    (few-lanes c.loop-k.at s.args.width s.requires.le_width.0.0.0 (omega arith), few-lanes c.count_of-n.result s.args.width s.requires.le_width.0.0.0 (omega arith)) in
     let f = few in omega arith
 
 pub loop-k-preserved : goal.loop-k-preserved
 loop-k-preserved c =
-    let part : Part (get_or c.args.parts.now c.loop-k.k []) = c.requires.0.1 c.loop-k.k c.loop-k-test.true in
+    let part : Part (get_or c.args.parts.now c.loop-k.k []) = c.requires.m_bound.1 c.loop-k.k c.loop-k-test.true in
     let there : c.loop-k.k < length c.args.parts.now = part-there c.args.parts.now c.loop-k.k part.three in
     let row : progression c.start_of_lem.result.0 c.step_of_lem.result.0 c.count_of-n.result ≡ addresses_in (get_or c.args.parts.now c.loop-k.k []) = part-is (get_or c.args.parts.now c.loop-k.k []) c.start_of_lem.ensures c.step_of_lem.ensures c.count_of-n.ensures in
     let d = c in

@@ -9,13 +9,10 @@ use Rattle.engine.proofs.walk.first.Goals as goal
 
 pub seek-requires : goal.seek-requires
 seek-requires c =
-    let a = c in (
-      (a.requires, (omega arith, omega (arith, a.requires.some)), (omega arith, refl)),
-      ((λ k. omega (arith, get_d-zeros 7 k)), under_none (shape_in a.args.shape.now) (suc (get_or a.args.shape.now 7 0 - 1)) (suc (get_or a.args.shape.now 7 0 - 1))),
-    )
+    let a = c in record { accepted = (a.requires, (omega arith, omega (arith, a.requires.some)), (omega arith, refl)); by_index = ((λ k. omega (arith, get_d-zeros 7 k)), under_none (shape_in a.args.shape.now) (suc (get_or a.args.shape.now 7 0 - 1)) (suc (get_or a.args.shape.now 7 0 - 1))) }
 
 pub returns : goal.returns
 returns c =
     let a = c in
     let s = shape_in a.args.shape.now in
-    stands s 0 c.seek.result c.seek.new.1.0 _ (sym (walk_start s (record { some = a.requires.some; most = a.requires.ranged.dims })) ∙ c.seek.ensures.0)
+    stands s 0 c.seek.result c.seek.new.index _ (sym (walk_start s (record { some = a.requires.some; most = a.requires.ranged.dims })) ∙ c.seek.ensures.index_value)

@@ -21,13 +21,13 @@ seek-requires c =
     let a = c in
     let i = a.args.index.now in
     let s = shape_in a.args.shape.now in
-    let x = get_or i 0 0 + 1 in (
-      (a.requires.0, (omega arith, a.requires.0.some), (omega arith, simp length-set (long))),
-      (
+    let x = get_or i 0 0 + 1 in record {
+      accepted = (a.requires.0, (omega arith, a.requires.0.some), (omega arith, simp length-set (long)));
+      by_index = (
         all_small i 0 x 4096 (omega (arith, long)) (omega (arith, small 0)) (λ k. omega (arith, small k)),
         rw (drop-set-lt 1 i 0 x (omega arith)) (under-from s i (element-under s a.requires.0 i a.requires.1) 1 a.requires.0.some),
-      ),
-    )
+      );
+    }
 
 pub returns : goal.returns
 returns c =
@@ -36,8 +36,8 @@ returns c =
     let a = c in
     let s = shape_in a.args.shape.now in
     let r = roomy s a.requires.0 in
-    stands s (suc k) c.seek.result c.seek.new.1.0 _
+    stands s (suc k) c.seek.result c.seek.new.index _
     (sym (walk-next s r k q)
     ∙ ap (after (size_at s) 0 s.dims) (sym e)
     ∙ sym (at_after (size_at s) 0 s.dims a.args.index.now (omega (arith, long)))
-    ∙ c.seek.ensures.0)
+    ∙ c.seek.ensures.index_value)

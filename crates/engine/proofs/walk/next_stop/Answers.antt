@@ -31,7 +31,7 @@ returns-then-shape-eq0 c =
     let a = c in
     let y = uncoupled-in (get_or a.args.shape.now 49 0) (dimension) c.if-shape-eq0.true in
     let u : stops (shape_at) ≡ elements (shape_at) = stops-uncoupled (shape_at) y in
-    arrives-element (shape_at) y (suc k) c.next-found.result c.next-found.new.1.0
+    arrives-element (shape_at) y (suc k) c.next-found.result c.next-found.new.index.0
     (c.next-found.ensures k (subst (λ l. k < length l) u q) (e ∙ ap (λ l. index_of (get_or l k [])) u))
 
 pub next_pass-requires : goal.next_pass-requires
@@ -46,7 +46,7 @@ next_pass-requires c =
     passing (shape_at) a.requires.0 (dimension) (coupled-in (get_or a.args.shape.now 49 0) (dimension) c.if-shape-eq0.false) in
     let p = coupled in
     let a = c in
-    ((a.requires.0, (p.some, p.within), long), ((λ k. omega (arith, small k)), under-from (shape_at) (from) (under) (dimension) p.within))
+    record { accepted = (a.requires.0, (p.some, p.within), long); by_index = ((λ k. omega (arith, small k)), under-from (shape_at) (from) (under) (dimension) p.within) }
 
 pub returns-then-empty : goal.returns-then-empty
 returns-then-empty c =
@@ -91,13 +91,13 @@ seek-requires c =
     passing (shape_at) a.requires.0 (dimension) (coupled-in (get_or a.args.shape.now 49 0) (dimension) c.if-shape-eq0.false) in
     let p = coupled in
     let a = c in
-    let x = get_or (from) 0 0 + 1 in (
-      (a.requires.0, (omega arith, p.some), (p.within, simp length-set (long))),
-      (
+    let x = get_or (from) 0 0 + 1 in record {
+      accepted = (a.requires.0, (omega arith, p.some), (p.within, simp length-set (long)));
+      by_index = (
         all_small (from) 0 x 4096 (omega (arith, long)) (omega (arith, small 0)) (λ k. omega (arith, small k)),
         rw (drop-set-lt 1 (from) 0 x (omega arith)) (under-from (shape_at) (from) (under) 1 a.requires.0.some),
-      ),
-    )
+      );
+    }
 
 pub returns-then-seek : goal.returns-then-seek
 returns-then-seek c =
@@ -117,17 +117,17 @@ returns-then-seek c =
     stops-after (shape_at) (dimension) (coupled) k q (from) i
     ∙ ap (λ x. cond x [] (after (size_at (shape_at)) 0 (dimension) (from)) ++ behind) (sym (told) ∙ y)
     ∙ ap (λ m. m ++ behind) e in
-    let in-pass : (b : Bool) → c.seek.result ≡ b → after (size_at (shape_at)) 0 (dimension) (from) ≡ cond b (c.seek.new.1.0 ∷ after (size_at (shape_at)) 0 (dimension) c.seek.new.1.0) [] = λ b y. let a = c in
-    let to = c.seek.new.1.0 in
+    let in-pass : (b : Bool) → c.seek.result ≡ b → after (size_at (shape_at)) 0 (dimension) (from) ≡ cond b (c.seek.new.index ∷ after (size_at (shape_at)) 0 (dimension) c.seek.new.index) [] = λ b y. let a = c in
+    let to = c.seek.new.index in
     sym (at_after (size_at (shape_at)) 0 (dimension) (from) (omega (arith, long)))
-    ∙ c.seek.ensures.0
+    ∙ c.seek.ensures.index_value
     ∙ ap (λ x. cond x (to ∷ after (size_at (shape_at)) 0 (dimension) to) []) y in
-    let outside : drop (dimension) c.seek.new.1.0 ≡ drop (dimension) (from) = let a = c in
-    c.seek.ensures.1.outside ∙ drop-set-lt (dimension) (from) 0 (get_or (from) 0 0 + 1) coupled.some in
+    let outside : drop (dimension) c.seek.new.index ≡ drop (dimension) (from) = let a = c in
+    c.seek.ensures.searched.outside ∙ drop-set-lt (dimension) (from) 0 (get_or (from) 0 0 + 1) coupled.some in
     λ k q e.
     let w = c in
     let a = w in
-    let to = c.seek.new.1.0 in
+    let to = c.seek.new.index in
     let some = c.if-empty.false in
     arrives (shape_at) (dimension) (coupled) (suc k) true false to
     (record {
@@ -144,14 +144,11 @@ next_pass-requires-2 c =
     let under : Under (shape_at) 0 (from) = here-under (shape_at) c.requires.0 (from) c.args.empty c.requires.1 in
     let coupled : Passing (shape_at) (dimension) = let a = c in
     passing (shape_at) a.requires.0 (dimension) (coupled-in (get_or a.args.shape.now 49 0) (dimension) c.if-shape-eq0.false) in
-    let outside : drop (dimension) c.seek.new.1.0 ≡ drop (dimension) (from) = let a = c in
-    c.seek.ensures.1.outside ∙ drop-set-lt (dimension) (from) 0 (get_or (from) 0 0 + 1) coupled.some in
+    let outside : drop (dimension) c.seek.new.index ≡ drop (dimension) (from) = let a = c in
+    c.seek.ensures.searched.outside ∙ drop-set-lt (dimension) (from) 0 (get_or (from) 0 0 + 1) coupled.some in
     let p = coupled in
     let a = c in
-    let k = c.seek.ensures.1 in (
-      (a.pre.0, (p.some, p.within), k.long),
-      (k.small, subst (Under (shape_at) (dimension)) (sym (outside)) (under-from (shape_at) (from) (under) (dimension) p.within)),
-    )
+    let k = c.seek.ensures.searched in record { accepted = (a.pre.0, (p.some, p.within), k.long); by_index = (k.small, subst (Under (shape_at) (dimension)) (sym (outside)) (under-from (shape_at) (from) (under) (dimension) p.within)) }
 
 pub returns : goal.returns
 returns c =
@@ -171,13 +168,13 @@ returns c =
     stops-after (shape_at) (dimension) (coupled) k q (from) i
     ∙ ap (λ x. cond x [] (after (size_at (shape_at)) 0 (dimension) (from)) ++ behind) (sym (told) ∙ y)
     ∙ ap (λ m. m ++ behind) e in
-    let in-pass : (b : Bool) → c.seek.result ≡ b → after (size_at (shape_at)) 0 (dimension) (from) ≡ cond b (c.seek.new.1.0 ∷ after (size_at (shape_at)) 0 (dimension) c.seek.new.1.0) [] = λ b y. let a = c in
-    let to = c.seek.new.1.0 in
+    let in-pass : (b : Bool) → c.seek.result ≡ b → after (size_at (shape_at)) 0 (dimension) (from) ≡ cond b (c.seek.new.index ∷ after (size_at (shape_at)) 0 (dimension) c.seek.new.index) [] = λ b y. let a = c in
+    let to = c.seek.new.index in
     sym (at_after (size_at (shape_at)) 0 (dimension) (from) (omega (arith, long)))
-    ∙ c.seek.ensures.0
+    ∙ c.seek.ensures.index_value
     ∙ ap (λ x. cond x (to ∷ after (size_at (shape_at)) 0 (dimension) to) []) y in
-    let outside : drop (dimension) c.seek.new.1.0 ≡ drop (dimension) (from) = let a = c in
-    c.seek.ensures.1.outside ∙ drop-set-lt (dimension) (from) 0 (get_or (from) 0 0 + 1) coupled.some in
+    let outside : drop (dimension) c.seek.new.index ≡ drop (dimension) (from) = let a = c in
+    c.seek.ensures.searched.outside ∙ drop-set-lt (dimension) (from) 0 (get_or (from) 0 0 + 1) coupled.some in
     λ k q e.
     let w = c in
     let a = w in
