@@ -28,11 +28,11 @@ returns c =
     let before = a.args.index.now in
     let y = a.requires.0 in
     let t = v.leave_row-next in
-    let to = t.new.1.1.1.0 in
+    let to = t.new.index in
     let place = spotted to t.result.spot in
     let z : suc q.moved ≡ q.moved + 1 = omega arith in
     let on : Onward p q.width (q.moved + 1) t.result.found place t.result.height =
-    subst (λ n. Onward p q.width n t.result.found place t.result.height) z (t.ensures.0 q.moved y.some y.index) in
+    subst (λ n. Onward p q.width n t.result.found place t.result.height) z (t.ensures.by_index q.moved y.some y.index) in
     let o : Ahead = record { live = true; found = t.result.found; count = 0; parts = 0; height = t.result.height; index = get_or to 0 0; address = t.result.spot.address; size = t.result.spot.size; step = t.result.spot.step } in (
       refl,
       refl,
@@ -40,6 +40,6 @@ returns c =
           let none : held_in p.shape (chunk p.shape most q.moved) ≡ [] = chunk-none p.shape most q.moved y.some a.requires.1 in
           looked p before q y most 0 1 [] to (behind o q) (sym (ap length none)) (ap (addresses_of p q.width) (sym none)) (sym (past-nothing (view_of p [] before q) 0 a.requires.1))
           t.result.found place t.result.height on
-          (shown-behind p before to q o refl t.ensures.1 1 (ap (λ b. cond b 1 0) (eq-eqb q.size 0 a.requires.2)))
+          (shown-behind p before to q o refl t.ensures.index_after 1 (ap (λ b. cond b 1 0) (eq-eqb q.size 0 a.requires.2)))
           (remembers-behind p before to q o refl (λ u. on.here u ∙ ap (place_at p q.width) (sym (ap (λ w. w.index) (on.here u))))),
     )

@@ -39,25 +39,25 @@ write_destination-requires c =
 
 pub after_read-requires : goal.after_read-requires
 after_read-requires c =
-    c.requires.count_bound.0.0
+    c.requires.count_bound.0
 
 pub after_read-requires-2 : goal.after_read-requires-2
 after_read-requires-2 c =
-    c.requires.count_bound.0.1.0
+    c.requires.count_bound.1.0
 
 pub after_write-requires : goal.after_write-requires
 after_write-requires c =
-    c.requires.count_bound.0.1.1
+    c.requires.count_bound.1.1
 
 pub returns : goal.returns
 returns c =
-    let second-bytes : let a = c.args in c.read_second.new.lanes.0 ≡ cond a.y.live (packed a.width (fetched_at a.memory.now a.width (listed_in a.y (cond a.same a.xs.now a.ys.now)))) a.lb.now = go c.args.same refl
+    let second-bytes : let a = c.args in c.read_second.new.lanes ≡ cond a.y.live (packed a.width (fetched_at a.memory.now a.width (listed_in a.y (cond a.same a.xs.now a.ys.now)))) a.lb.now = go c.args.same refl
   where
     go : (b : Bool) → c.args.same ≡ b
-        → c.read_second.new.lanes.0 ≡ cond c.args.y.live (packed c.args.width (fetched_at c.args.memory.now c.args.width (listed_in c.args.y (cond c.args.same c.args.xs.now c.args.ys.now)))) c.args.lb.now
+        → c.read_second.new.lanes ≡ cond c.args.y.live (packed c.args.width (fetched_at c.args.memory.now c.args.width (listed_in c.args.y (cond c.args.same c.args.xs.now c.args.ys.now)))) c.args.lb.now
     go true e =
         let a = c in
-        let h = a.requires.count_bound.1 e in
+        let h = a.requires.y_value e in
         rw e ((rw e at c.read_second.ensures) ∙ c.read_source.ensures
         ∙ (λ i. cond (sym h.0 i).live (packed a.args.width (fetched_at a.args.memory.now a.args.width (listed_in (sym h.0 i) a.args.xs.now))) (sym h.1 i)))
     go false e = rw e (rw e at c.read_second.ensures) in
@@ -72,8 +72,8 @@ returns c =
     let s = second-bytes in
     let o = c.calculate_lanes in
     let d = c.write_destination in
-    let first = r.new.1.1.1.1.0 in
-    let second = c.read_second.new.lanes.0 in
+    let first = r.new.lanes in
+    let second = c.read_second.new.lanes in
     let ys = cond a.args.same a.args.xs.now a.args.ys.now in
     let b : Bytewise m = λ i. (c.slice_known-1.given i).fits in
     let p = read_back width n m x a.args.xs.now a.args.la.now first refl w.room w.first_long b r.ensures in
@@ -86,7 +86,7 @@ returns c =
       other = c.after_read-2.ensures;
       other_chunk = s ∙ chunk-same y.live width _ (lanes_from a.args.lb.now width 0 y.count) a.args.lb.now;
       written = c.after_write.ensures ∙ ap (λ j. cond a.args.z.live (afterwards a.args.z a.args.d) (filled_with width j (afterwards a.args.z a.args.d))) k.ensures;
-      content = d.ensures.0 ∙ ap (λ l. cond a.args.z.live a.args.ld.now l) (o.ensures ∙ ap (packed width) e);
-      stored = d.ensures.1 ∙ ap (λ l. cond a.args.z.live (stored_at m width (listed_in a.args.z a.args.zs.now) l) m)
+      content = d.ensures.lanes_after ∙ ap (λ l. cond a.args.z.live a.args.ld.now l) (o.ensures ∙ ap (packed width) e);
+      stored = d.ensures.memory_after ∙ ap (λ l. cond a.args.z.live (stored_at m width (listed_in a.args.z a.args.zs.now) l) m)
           (ap (lanes_from _ width 0) k.ensures ∙ ap (λ l. lanes_from l width 0 (outcome_count a.args.task n)) o.ensures ∙ result-back a.args.task width n first second w.wide w.room c.look_at-one.ensures c.look_at-other.ensures ∙ e);
     }

@@ -32,13 +32,13 @@ pub loop-open-init : goal.loop-open-init
 loop-open-init c =
     let s = c in
     let y = c.lay_out-all in
-    let e = y.ensures.1 in (
+    let e = y.ensures.result_after in (
       s.requires.le_vl.1.1,
       search (rules, unmapped),
       subst (λ rs. Passes s.args.vl s.args.register (take s.args.body.count s.args.body.steps) (record { machine = s.args.m; memory = s.args.memory.now }) rs s.args.memory.now 0 0 c.is_open-open.result) (sym e)
           (passes-begun _ _ _ s.args.m _ _ s.requires.le_vl.0.0 s.requires.le_vl.1.0 s.requires.all_named.0 s.requires.all_named.1.0 s.requires.all_named.1.1
-          (c.is_open-open.ensures ∙ ap (λ r. is_open r.state) (sym (views-at y.new.1.0 y.new.1.1.0 y.new.1.1.1.0 y.new.1.1.1.1.0 y.result s.args.register s.requires.le_vl.1.0) ∙ ap (λ rs. get_or rs s.args.register no_register) e))),
-      record { out = y.ensures.0; firsts = search rules; seconds = search rules; thirds = search rules; long = refl },
+          (c.is_open-open.ensures ∙ ap (λ r. is_open r.state) (sym (views-at y.new.shapes y.new.places y.new.lanes y.new.indices y.result s.args.register s.requires.le_vl.1.0) ∙ ap (λ rs. get_or rs s.args.register no_register) e))),
+      record { out = y.ensures.laid_out; firsts = search rules; seconds = search rules; thirds = search rules; long = refl },
     )
 
 pub loop-k-init : goal.loop-k-init
@@ -143,7 +143,7 @@ rejoined-requires c =
     let m = c in
     let l = m.loop-k in
     let y = m.lay_out-all in
-    (l.invariant.1.out, λ k h. ap (λ rs. (get_or rs k no_register).pattern) (sym y.ensures.1) ∙ patterns-set (shapes) (places) y.new.1.1.1.0 y.new.1.1.1.1.0 y.result k h)
+    (l.invariant.1.out, λ k h. ap (λ rs. (get_or rs k no_register).pattern) (sym y.ensures.result_after) ∙ patterns-set (shapes) (places) y.new.lanes y.new.indices y.result k h)
 
 pub shape_of-memory-in-Because : goal.shape_of-memory-in-Because
 shape_of-memory-in-Because c =
@@ -156,12 +156,12 @@ returns-in-Because c =
     let shapes : List (List ℕ) = c.lay_out-all.new.shapes in
     let places : List (List ℤ) = c.lay_out-all.new.places in
     let sixty-four : (i : ℕ) → i < 32 → length (get_or c.loop-k.lanes i []) ≡ 64 = let l = c.loop-k in lanes-long (shapes) (places) l.lanes l.indices l.all l.invariant.1.out c.args.vl l.invariant.0.good in
-    let checked : let m = c in let l = m.loop-k in let a = m in let k = c.check_calculation-o in Cleared calculation.task a.args.vl (length l.memory) (eqb calculation.first calculation.second) (pattern_at (shapes) (places) calculation.first) (pattern_at (shapes) (places) calculation.second) (pattern_at (shapes) (places) calculation.destination) (get_or l.all calculation.first no_running) (get_or l.all calculation.second no_running) (get_or l.all calculation.destination no_running) (get_or l.indices calculation.first []) (get_or l.indices calculation.second []) (get_or l.indices calculation.destination []) k.new.1.1.1.1.1.1.1.1.1.1.1.1.0 k.new.1.1.1.1.1.1.1.1.1.1.1.1.1.0 k.new.1.1.1.1.1.1.1.1.1.1.1.1.1.1.0 k.new.1.1.1.1.1.1.1.1.1.1.1.1.1.1.1.0 (cond (eqb calculation.first calculation.second) k.new.1.1.1.1.1.1.1.1.1.1.1.1.1.1.1.0 k.new.1.1.1.1.1.1.1.1.1.1.1.1.1.1.1.1.0) k.new.1.1.1.1.1.1.1.1.1.1.1.1.1.1.1.1.1.0 k.result = let m = c in
+    let checked : let m = c in let l = m.loop-k in let a = m in let k = c.check_calculation-o in Cleared calculation.task a.args.vl (length l.memory) (eqb calculation.first calculation.second) (pattern_at (shapes) (places) calculation.first) (pattern_at (shapes) (places) calculation.second) (pattern_at (shapes) (places) calculation.destination) (get_or l.all calculation.first no_running) (get_or l.all calculation.second no_running) (get_or l.all calculation.destination no_running) (get_or l.indices calculation.first []) (get_or l.indices calculation.second []) (get_or l.indices calculation.destination []) k.new.va k.new.vb k.new.vd k.new.xs (cond (eqb calculation.first calculation.second) k.new.xs k.new.ys) k.new.zs k.result = let m = c in
     let l = m.loop-k in
     let a = m in
     let k = c.check_calculation-o in
     subst (λ w. Cleared calculation.task a.args.vl w (eqb calculation.first calculation.second) (pattern_at (shapes) (places) calculation.first) (pattern_at (shapes) (places) calculation.second) (pattern_at (shapes) (places) calculation.destination) (get_or l.all calculation.first no_running) (get_or l.all calculation.second no_running) (get_or l.all calculation.destination no_running)
-    (get_or l.indices calculation.first []) (get_or l.indices calculation.second []) (get_or l.indices calculation.destination []) k.new.1.1.1.1.1.1.1.1.1.1.1.1.0 k.new.1.1.1.1.1.1.1.1.1.1.1.1.1.0 k.new.1.1.1.1.1.1.1.1.1.1.1.1.1.1.0 k.new.1.1.1.1.1.1.1.1.1.1.1.1.1.1.1.0 (cond (eqb calculation.first calculation.second) k.new.1.1.1.1.1.1.1.1.1.1.1.1.1.1.1.0 k.new.1.1.1.1.1.1.1.1.1.1.1.1.1.1.1.1.0) k.new.1.1.1.1.1.1.1.1.1.1.1.1.1.1.1.1.1.0 k.result) (sym l.invariant.1.long) k.ensures.0 in
+    (get_or l.indices calculation.first []) (get_or l.indices calculation.second []) (get_or l.indices calculation.destination []) k.new.va k.new.vb k.new.vd k.new.xs (cond (eqb calculation.first calculation.second) k.new.xs k.new.ys) k.new.zs k.result) (sym l.invariant.1.long) k.ensures.cleared in
     let m = c in
     let l = m.loop-k in
     let a = m in
@@ -169,7 +169,7 @@ returns-in-Because c =
     let k = c.check_calculation-o in
     let r : Register = no_register in
     let h = refused-so calculation.task a.args.vl (eqb calculation.first calculation.second) (pattern_at (shapes) (places) calculation.first) (pattern_at (shapes) (places) calculation.second) (pattern_at (shapes) (places) calculation.destination) (get_or l.all calculation.first no_running) (get_or l.all calculation.second no_running) (get_or l.all calculation.destination no_running)
-    (get_or l.indices calculation.first []) (get_or l.indices calculation.second []) (get_or l.indices calculation.destination []) k.new.1.1.1.1.1.1.1.1.1.1.1.1.0 k.new.1.1.1.1.1.1.1.1.1.1.1.1.1.0 k.new.1.1.1.1.1.1.1.1.1.1.1.1.1.1.0 k.new.1.1.1.1.1.1.1.1.1.1.1.1.1.1.1.0 (cond (eqb calculation.first calculation.second) k.new.1.1.1.1.1.1.1.1.1.1.1.1.1.1.1.0 k.new.1.1.1.1.1.1.1.1.1.1.1.1.1.1.1.1.0) k.new.1.1.1.1.1.1.1.1.1.1.1.1.1.1.1.1.1.0 k.result
+    (get_or l.indices calculation.first []) (get_or l.indices calculation.second []) (get_or l.indices calculation.destination []) k.new.va k.new.vb k.new.vd k.new.xs (cond (eqb calculation.first calculation.second) k.new.xs k.new.ys) k.new.zs k.result
     (get_or l.lanes calculation.first []) (get_or l.lanes calculation.second []) (get_or l.lanes calculation.destination []) l.memory (checked) (sixty-four calculation.first named.first) (sixty-four calculation.second named.second) (sixty-four calculation.destination named.destination) _ c.in-Because.is r r r in
     let p = passing-no _ _ _ _ _ _ _ _ _ _ _ l.invariant.0 m.loop-k-test.true (omega (arith, o.invariant.0, o.invariant.1)) _ _ _ _ _
     (calculated-at (shapes) (places) l.lanes l.indices l.all l.invariant.1.out a.args.vl calculation.task l.memory calculation.first calculation.second calculation.destination named.first named.second named.destination _ r r r l.memory h) _ c.in-Because.is in
@@ -213,12 +213,12 @@ carry_out-e-requires c =
     let shapes : List (List ℕ) = c.lay_out-all.new.shapes in
     let places : List (List ℤ) = c.lay_out-all.new.places in
     let fits : (i : ℕ) → i < 32 → Fit c.args.vl (pattern_at (shapes) (places) i) (get_or c.loop-k.indices i []) (get_or c.loop-k.all i no_running) = let l = c.loop-k in fit_at (shapes) (places) l.lanes l.indices l.all l.invariant.1.out c.args.vl l.invariant.0.good in
-    let checked : let m = c in let l = m.loop-k in let a = m in let k = c.check_calculation-o in Cleared calculation.task a.args.vl (length l.memory) (eqb calculation.first calculation.second) (pattern_at (shapes) (places) calculation.first) (pattern_at (shapes) (places) calculation.second) (pattern_at (shapes) (places) calculation.destination) (get_or l.all calculation.first no_running) (get_or l.all calculation.second no_running) (get_or l.all calculation.destination no_running) (get_or l.indices calculation.first []) (get_or l.indices calculation.second []) (get_or l.indices calculation.destination []) k.new.1.1.1.1.1.1.1.1.1.1.1.1.0 k.new.1.1.1.1.1.1.1.1.1.1.1.1.1.0 k.new.1.1.1.1.1.1.1.1.1.1.1.1.1.1.0 k.new.1.1.1.1.1.1.1.1.1.1.1.1.1.1.1.0 (cond (eqb calculation.first calculation.second) k.new.1.1.1.1.1.1.1.1.1.1.1.1.1.1.1.0 k.new.1.1.1.1.1.1.1.1.1.1.1.1.1.1.1.1.0) k.new.1.1.1.1.1.1.1.1.1.1.1.1.1.1.1.1.1.0 k.result = let m = c in
+    let checked : let m = c in let l = m.loop-k in let a = m in let k = c.check_calculation-o in Cleared calculation.task a.args.vl (length l.memory) (eqb calculation.first calculation.second) (pattern_at (shapes) (places) calculation.first) (pattern_at (shapes) (places) calculation.second) (pattern_at (shapes) (places) calculation.destination) (get_or l.all calculation.first no_running) (get_or l.all calculation.second no_running) (get_or l.all calculation.destination no_running) (get_or l.indices calculation.first []) (get_or l.indices calculation.second []) (get_or l.indices calculation.destination []) k.new.va k.new.vb k.new.vd k.new.xs (cond (eqb calculation.first calculation.second) k.new.xs k.new.ys) k.new.zs k.result = let m = c in
     let l = m.loop-k in
     let a = m in
     let k = c.check_calculation-o in
     subst (λ w. Cleared calculation.task a.args.vl w (eqb calculation.first calculation.second) (pattern_at (shapes) (places) calculation.first) (pattern_at (shapes) (places) calculation.second) (pattern_at (shapes) (places) calculation.destination) (get_or l.all calculation.first no_running) (get_or l.all calculation.second no_running) (get_or l.all calculation.destination no_running)
-    (get_or l.indices calculation.first []) (get_or l.indices calculation.second []) (get_or l.indices calculation.destination []) k.new.1.1.1.1.1.1.1.1.1.1.1.1.0 k.new.1.1.1.1.1.1.1.1.1.1.1.1.1.0 k.new.1.1.1.1.1.1.1.1.1.1.1.1.1.1.0 k.new.1.1.1.1.1.1.1.1.1.1.1.1.1.1.1.0 (cond (eqb calculation.first calculation.second) k.new.1.1.1.1.1.1.1.1.1.1.1.1.1.1.1.0 k.new.1.1.1.1.1.1.1.1.1.1.1.1.1.1.1.1.0) k.new.1.1.1.1.1.1.1.1.1.1.1.1.1.1.1.1.1.0 k.result) (sym l.invariant.1.long) k.ensures.0 in
+    (get_or l.indices calculation.first []) (get_or l.indices calculation.second []) (get_or l.indices calculation.destination []) k.new.va k.new.vb k.new.vd k.new.xs (cond (eqb calculation.first calculation.second) k.new.xs k.new.ys) k.new.zs k.result) (sym l.invariant.1.long) k.ensures.cleared in
     let m = c in
     let l = m.loop-k in
     let k = c.check_calculation-o in
@@ -347,12 +347,12 @@ loop-k-preserved c =
     let places : List (List ℤ) = c.lay_out-all.new.places in
     let fits : (i : ℕ) → i < 32 → Fit c.args.vl (pattern_at (shapes) (places) i) (get_or c.loop-k.indices i []) (get_or c.loop-k.all i no_running) = let l = c.loop-k in fit_at (shapes) (places) l.lanes l.indices l.all l.invariant.1.out c.args.vl l.invariant.0.good in
     let sixty-four : (i : ℕ) → i < 32 → length (get_or c.loop-k.lanes i []) ≡ 64 = let l = c.loop-k in lanes-long (shapes) (places) l.lanes l.indices l.all l.invariant.1.out c.args.vl l.invariant.0.good in
-    let checked : let m = c in let l = m.loop-k in let a = m in let k = c.check_calculation-o in Cleared calculation.task a.args.vl (length l.memory) (eqb calculation.first calculation.second) (pattern_at (shapes) (places) calculation.first) (pattern_at (shapes) (places) calculation.second) (pattern_at (shapes) (places) calculation.destination) (get_or l.all calculation.first no_running) (get_or l.all calculation.second no_running) (get_or l.all calculation.destination no_running) (get_or l.indices calculation.first []) (get_or l.indices calculation.second []) (get_or l.indices calculation.destination []) k.new.1.1.1.1.1.1.1.1.1.1.1.1.0 k.new.1.1.1.1.1.1.1.1.1.1.1.1.1.0 k.new.1.1.1.1.1.1.1.1.1.1.1.1.1.1.0 k.new.1.1.1.1.1.1.1.1.1.1.1.1.1.1.1.0 (cond (eqb calculation.first calculation.second) k.new.1.1.1.1.1.1.1.1.1.1.1.1.1.1.1.0 k.new.1.1.1.1.1.1.1.1.1.1.1.1.1.1.1.1.0) k.new.1.1.1.1.1.1.1.1.1.1.1.1.1.1.1.1.1.0 k.result = let m = c in
+    let checked : let m = c in let l = m.loop-k in let a = m in let k = c.check_calculation-o in Cleared calculation.task a.args.vl (length l.memory) (eqb calculation.first calculation.second) (pattern_at (shapes) (places) calculation.first) (pattern_at (shapes) (places) calculation.second) (pattern_at (shapes) (places) calculation.destination) (get_or l.all calculation.first no_running) (get_or l.all calculation.second no_running) (get_or l.all calculation.destination no_running) (get_or l.indices calculation.first []) (get_or l.indices calculation.second []) (get_or l.indices calculation.destination []) k.new.va k.new.vb k.new.vd k.new.xs (cond (eqb calculation.first calculation.second) k.new.xs k.new.ys) k.new.zs k.result = let m = c in
     let l = m.loop-k in
     let a = m in
     let k = c.check_calculation-o in
     subst (λ w. Cleared calculation.task a.args.vl w (eqb calculation.first calculation.second) (pattern_at (shapes) (places) calculation.first) (pattern_at (shapes) (places) calculation.second) (pattern_at (shapes) (places) calculation.destination) (get_or l.all calculation.first no_running) (get_or l.all calculation.second no_running) (get_or l.all calculation.destination no_running)
-    (get_or l.indices calculation.first []) (get_or l.indices calculation.second []) (get_or l.indices calculation.destination []) k.new.1.1.1.1.1.1.1.1.1.1.1.1.0 k.new.1.1.1.1.1.1.1.1.1.1.1.1.1.0 k.new.1.1.1.1.1.1.1.1.1.1.1.1.1.1.0 k.new.1.1.1.1.1.1.1.1.1.1.1.1.1.1.1.0 (cond (eqb calculation.first calculation.second) k.new.1.1.1.1.1.1.1.1.1.1.1.1.1.1.1.0 k.new.1.1.1.1.1.1.1.1.1.1.1.1.1.1.1.1.0) k.new.1.1.1.1.1.1.1.1.1.1.1.1.1.1.1.1.1.0 k.result) (sym l.invariant.1.long) k.ensures.0 in
+    (get_or l.indices calculation.first []) (get_or l.indices calculation.second []) (get_or l.indices calculation.destination []) k.new.va k.new.vb k.new.vd k.new.xs (cond (eqb calculation.first calculation.second) k.new.xs k.new.ys) k.new.zs k.result) (sym l.invariant.1.long) k.ensures.cleared in
     let m = c in
     let l = m.loop-k in
     let a = m in
@@ -363,18 +363,18 @@ loop-k-preserved c =
     let v = c.carry_out-e in
     let fa = fits calculation.first named.first in
     let h = round calculation.task a.args.vl (eqb calculation.first calculation.second) (pattern_at (shapes) (places) calculation.first) (pattern_at (shapes) (places) calculation.second) (pattern_at (shapes) (places) calculation.destination) (get_or l.all calculation.first no_running) (get_or l.all calculation.second no_running) (get_or l.all calculation.destination no_running)
-    (get_or l.indices calculation.first []) (get_or l.indices calculation.second []) (get_or l.indices calculation.destination []) k.new.1.1.1.1.1.1.1.1.1.1.1.1.0 k.new.1.1.1.1.1.1.1.1.1.1.1.1.1.0 k.new.1.1.1.1.1.1.1.1.1.1.1.1.1.1.0 k.new.1.1.1.1.1.1.1.1.1.1.1.1.1.1.1.0 (cond (eqb calculation.first calculation.second) k.new.1.1.1.1.1.1.1.1.1.1.1.1.1.1.1.0 k.new.1.1.1.1.1.1.1.1.1.1.1.1.1.1.1.1.0) k.new.1.1.1.1.1.1.1.1.1.1.1.1.1.1.1.1.1.0 k.result
-    (get_or l.lanes calculation.first []) (get_or l.lanes calculation.second []) (get_or l.lanes calculation.destination []) l.memory g (sixty-four calculation.first named.first) (sixty-four calculation.second named.second) (sixty-four calculation.destination named.destination) a.requires.le_vl.0.0 e fa v.result v.new.1.1.1.1.1.1.1.1.1.1.1.1.0 v.new.1.1.1.1.1.1.1.1.1.1.1.1.1.0 v.new.1.1.1.1.1.1.1.1.1.1.1.1.1.1.0 v.new.1.1.1.1.1.1.1.1.1.1.1.1.1.1.1.0 v.ensures in
+    (get_or l.indices calculation.first []) (get_or l.indices calculation.second []) (get_or l.indices calculation.destination []) k.new.va k.new.vb k.new.vd k.new.xs (cond (eqb calculation.first calculation.second) k.new.xs k.new.ys) k.new.zs k.result
+    (get_or l.lanes calculation.first []) (get_or l.lanes calculation.second []) (get_or l.lanes calculation.destination []) l.memory g (sixty-four calculation.first named.first) (sixty-four calculation.second named.second) (sixty-four calculation.destination named.destination) a.requires.le_vl.0.0 e fa v.result v.new.la v.new.lb v.new.ld v.new.memory v.ensures in
     let q = passing-on _ _ _ _ _ _ _ _ _ _ _ l.invariant.0 m.loop-k-test.true (omega (arith, o.invariant.0, o.invariant.1)) _ _ _ _ _
-    (calculated-at (shapes) (places) l.lanes l.indices l.all l.invariant.1.out a.args.vl calculation.task l.memory calculation.first calculation.second calculation.destination named.first named.second named.destination _ _ _ _ v.new.1.1.1.1.1.1.1.1.1.1.1.1.1.1.1.0 h.0) e in
-    let w = three-on (shapes) (places) l.lanes l.indices l.all l.invariant.1.out calculation.first calculation.second calculation.destination named.first named.second named.destination v.new.1.1.1.1.1.1.1.1.1.1.1.1.0 v.new.1.1.1.1.1.1.1.1.1.1.1.1.1.0 v.new.1.1.1.1.1.1.1.1.1.1.1.1.1.1.0 k.new.1.1.1.1.1.1.1.1.1.1.1.1.0 k.new.1.1.1.1.1.1.1.1.1.1.1.1.1.0 k.new.1.1.1.1.1.1.1.1.1.1.1.1.1.1.0 v.result.first v.result.second v.result.destination h.1.0 h.1.1.0 h.1.1.1 in (
-      subst (λ rs. Passing a.args.vl a.args.body.count a.args.body.steps o.passes (registers_in (shapes) (places) o.lanes o.indices o.all) o.memory o.calculations rs v.new.1.1.1.1.1.1.1.1.1.1.1.1.1.1.1.0 (l.calculations + 1) (l.k + 1))
+    (calculated-at (shapes) (places) l.lanes l.indices l.all l.invariant.1.out a.args.vl calculation.task l.memory calculation.first calculation.second calculation.destination named.first named.second named.destination _ _ _ _ v.new.memory h.0) e in
+    let w = three-on (shapes) (places) l.lanes l.indices l.all l.invariant.1.out calculation.first calculation.second calculation.destination named.first named.second named.destination v.new.la v.new.lb v.new.ld k.new.va k.new.vb k.new.vd v.result.first v.result.second v.result.destination h.1.0 h.1.1.0 h.1.1.1 in (
+      subst (λ rs. Passing a.args.vl a.args.body.count a.args.body.steps o.passes (registers_in (shapes) (places) o.lanes o.indices o.all) o.memory o.calculations rs v.new.memory (l.calculations + 1) (l.k + 1))
           (sym w.1) q,
       record {
         out = w.0;
-        firsts = k.ensures.1.0;
-        seconds = k.ensures.1.1.0;
-        thirds = k.ensures.1.1.1;
+        firsts = k.ensures.xs_len_2.0;
+        seconds = k.ensures.xs_len_2.1.0;
+        thirds = k.ensures.xs_len_2.1.1;
         long = q.long ∙ sym l.invariant.0.long ∙ l.invariant.1.long;
       },
     )
@@ -404,7 +404,7 @@ loop-open-preserved c =
       o.invariant.0,
       o.invariant.1,
       passes_on _ _ _ _ _ _ _ _ _ _ o.invariant.2 c.loop-open-test.true _ _ _ _ l.invariant.0 c.loop-k-test.false o.invariant.0 _
-          (c.is_open-open-in-loop-open.ensures ∙ ap (λ r. is_open r.state) (sym (views-at y.new.1.0 y.new.1.1.0 l.lanes l.indices l.all s.args.register s.requires.le_vl.1.0))),
+          (c.is_open-open-in-loop-open.ensures ∙ ap (λ r. is_open r.state) (sym (views-at y.new.shapes y.new.places l.lanes l.indices l.all s.args.register s.requires.le_vl.1.0))),
       l.invariant.1,
     )
 
@@ -412,7 +412,7 @@ pub rejoined-requires-2 : goal.rejoined-requires-2
 rejoined-requires-2 c =
     let l = c.loop-open in
     let y = c.lay_out-all in
-    (l.invariant.3.out, λ k h. ap (λ rs. (get_or rs k no_register).pattern) (sym y.ensures.1) ∙ patterns-set y.new.1.0 y.new.1.1.0 y.new.1.1.1.0 y.new.1.1.1.1.0 y.result k h)
+    (l.invariant.3.out, λ k h. ap (λ rs. (get_or rs k no_register).pattern) (sym y.ensures.result_after) ∙ patterns-set y.new.shapes y.new.places y.new.lanes y.new.indices y.result k h)
 
 pub shape_of-memory : goal.shape_of-memory
 shape_of-memory c =

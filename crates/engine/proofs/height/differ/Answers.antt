@@ -19,23 +19,23 @@ one_more (suc d) u v p a b e h =
 
 pub loop-d-init : goal.loop-d-init
 loop-d-init c =
-    (omega arith, search rules, search rules, all-gone c.args.v (search rules) ∙ sym (all-gone c.args.t2 (search rules)))
+    (omega arith, search rules, search rules, all-gone c.args.u (search rules) ∙ sym (all-gone c.args.v (search rules)))
 
 pub returns-then-i-j : goal.returns-then-i-j
 returns-then-i-j c =
     let l = c.loop-d in
     let a = c.args in
-    (sym (found_at l.d a.t1 a.t2 (omega arith) (omega arith) l.invariant.3 c.if-i-j.true), omega arith)
+    (sym (found_at l.d a.u a.v (omega arith) (omega arith) l.invariant.3 c.if-i-j.true), omega arith)
 
 pub loop-d-preserved : goal.loop-d-preserved
 loop-d-preserved c =
     let l = c.loop-d in
     let a = c.args in
-    (omega arith, l.invariant.1, l.invariant.2, one_more l.d a.t1 a.t2 (omega arith) (omega arith) (omega arith) c.if-i-j.false l.invariant.3)
+    (omega arith, l.invariant.1, l.invariant.2, one_more l.d a.u a.v (omega arith) (omega arith) (omega arith) c.if-i-j.false l.invariant.3)
 
 pub returns : goal.returns
 returns c =
     let a = c.args in
     let i = c.loop-d.invariant in
     let z : c.loop-d.d ≡ 0 = omega arith in
-    (omega (arith, differ-from c.loop-d.d a.t1 a.t2 (i.1 ∙ sym i.2) i.3), omega arith)
+    (omega (arith, differ-from c.loop-d.d a.u a.v (i.1 ∙ sym i.2) i.3), omega arith)

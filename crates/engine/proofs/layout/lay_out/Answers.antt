@@ -23,7 +23,7 @@ pub started-q-requires : goal.started-q-requires
 started-q-requires c =
     let s = c in
     let k = c.loop-k.k in
-    let shape = c.shape_row_lem in
+    let shape = c.shape_row-shape in
     let place = c.place_row-place in (
       same-pattern (get_or s.args.m.registers k no_register).pattern shape.result place.result shape.ensures place.ensures,
       (s.requires.by_index.0, s.requires.by_index.1.good k (omega (arith, c.loop-k-test.true))),
@@ -34,7 +34,7 @@ loop-k-preserved c =
     let rs = c.args.m.registers in
     let l = c.loop-k in
     let r = get_or rs l.k no_register in
-    let shape = c.shape_row_lem in
+    let shape = c.shape_row-shape in
     let place = c.place_row-place in (
       omega (arith, c.loop-k-test.true),
       laid_more rs l.k l.shapes l.places l.lanes l.indices l.all l.invariant.1 (omega (arith, c.loop-k-test.true))

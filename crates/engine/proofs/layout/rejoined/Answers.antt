@@ -14,7 +14,7 @@ loop-k-preserved c =
     let a = s.args in
     let l = c.loop-k in (
       omega (arith, c.loop-k-test.true),
-      joined-more a.m.registers l.k a.shapes.now a.places.now a.lanes.now a.indices.now a.t6 l.registers l.invariant.1 (omega (arith, c.loop-k-test.true))
+      joined-more a.m.registers l.k a.shapes.now a.places.now a.lanes.now a.indices.now a.all l.registers l.invariant.1 (omega (arith, c.loop-k-test.true))
           (s.requires.1 l.k (omega (arith, c.loop-k-test.true))) c.stopped-s.result c.stopped-s.ensures,
     )
 
@@ -22,4 +22,4 @@ pub returns : goal.returns
 returns c =
     let a = c.args in
     let l = c.loop-k in
-    joined-all a.m.registers l.k a.shapes.now a.places.now a.lanes.now a.indices.now a.t6 l.registers l.invariant.1 (omega arith)
+    joined-all a.m.registers l.k a.shapes.now a.places.now a.lanes.now a.indices.now a.all l.registers l.invariant.1 (omega arith)

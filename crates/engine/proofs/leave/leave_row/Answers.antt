@@ -22,7 +22,7 @@ returns-then-not-next c =
     let n = c.next_stop-next in record {
       by_index = λ k q e.
           let st = n.ensures k q e in
-          let z : ltb (suc k) (length (stops s)) ≡ false = sym st.told ∙ c.if-not-next.true in
+          let z : ltb (suc k) (length (stops s)) ≡ false = sym st.told ∙ not-true n.result.found c.if-not-next.true in
           record { told = sym z; here = λ t. never t; high = sym (height-none s k (ltb-false _ _ z)) };
       index_after = λ t. refl;
     }
@@ -31,7 +31,7 @@ pub spot_at-spot-requires : goal.spot_at-spot-requires
 spot_at-spot-requires c =
     let found : Stop (shape_in c.args.shape.now) c.next_stop-next.new.index c.next_stop-next.result.empty = let e = c.requires.stop in
     let n = c.next_stop-next in
-    let t : n.result.found ≡ true = c.if-not-next.false in
+    let t : n.result.found ≡ true = not-false n.result.found c.if-not-next.false in
     let st = n.ensures e.position e.below e.here in
     record { position = suc e.position; below = ltb-true _ _ (sym st.told ∙ t); here = st.here t; told = st.nothing t } in
     let a = c in
@@ -45,7 +45,7 @@ returns c =
     let a = c in
     let s = shape_in a.args.shape.now in
     let n = c.next_stop-next in
-    let t : n.result.found ≡ true = c.if-not-next.false in record {
+    let t : n.result.found ≡ true = not-false n.result.found c.if-not-next.false in record {
       by_index = λ k q e.
           let st = n.ensures k q e in
           let f = st.here t in

@@ -6,13 +6,13 @@ use Rattle.engine.proofs.operand.after_read.Goals as goal
 
 pub returns-then-not-o : goal.returns-then-not-o
 returns-then-not-o c =
-    rw (c.if-not-o.true)
+    rw (not-true c.args.o.live c.if-not-o.true)
 
 pub moved_on-requires : goal.moved_on-requires
 moved_on-requires c =
-    c.requires (c.if-not-o.false)
+    c.requires (not-false c.args.o.live c.if-not-o.false)
 
 pub returns : goal.returns
 returns c =
     let a = c.args in
-    rw (c.if-not-o.false) (c.filled.ensures ∙ ap (filled_with a.width a.o.count) c.moved_on.ensures)
+    rw (not-false a.o.live c.if-not-o.false) (c.filled.ensures ∙ ap (filled_with a.width a.o.count) c.moved_on.ensures)

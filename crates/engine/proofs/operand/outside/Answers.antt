@@ -6,7 +6,7 @@ use Rattle.engine.proofs.operand.outside.Goals as goal
 
 pub returns-then-not-o : goal.returns-then-not-o
 returns-then-not-o c =
-    let a = c.args in blames-none a.role a.len a.width a.o.live _ (c.if-not-o.true)
+    let a = c.args in blames-none a.role a.len a.width a.o.live _ (not-true a.o.live c.if-not-o.true)
 
 pub check_addresses-requires : goal.check_addresses-requires
 check_addresses-requires c =
@@ -15,9 +15,9 @@ check_addresses-requires c =
 pub returns-in-Inside : goal.returns-in-Inside
 returns-in-Inside c =
     let a = c.args in
-    blames-inside a.role a.len a.width a.o.live _ (c.if-not-o.false) (sym c.in-Inside.is ∙ c.check_addresses.ensures)
+    blames-inside a.role a.len a.width a.o.live _ (not-false a.o.live c.if-not-o.false) (sym c.in-Inside.is ∙ c.check_addresses.ensures)
 
 pub returns-in-Outside : goal.returns-in-Outside
 returns-in-Outside c =
     let a = c.args in
-    blames-lane a.role a.len a.width a.o.live _ _ (c.if-not-o.false) (sym c.in-Outside.is ∙ c.check_addresses.ensures)
+    blames-lane a.role a.len a.width a.o.live _ _ (not-false a.o.live c.if-not-o.false) (sym c.in-Outside.is ∙ c.check_addresses.ensures)

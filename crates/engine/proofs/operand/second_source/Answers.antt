@@ -5,7 +5,7 @@ use Rattle.engine.proofs.operand.second_source.Goals as goal
 
 pub returns-then-same : goal.returns-then-same
 returns-then-same c =
-    let a = c in let e = c.if-same.true in record { taken_2 = rw e (a.requires.ready.1 e); parts_len = (a.requires.most_bound.1, λ t. refl) }
+    let a = c in let e = c.if-same.true in record { taken_2 = rw e (a.requires.taken e); parts_len = (a.requires.most_bound.1, λ t. refl) }
 
 pub returns : goal.returns
 returns c =

@@ -20,11 +20,11 @@ most {s} h a = omega (arith, few s, a.few, below h)
 
 pub first-requires : goal.first-requires
 first-requires c =
-    subst Accepted (sym c.shape_row_lem.ensures) c.requires.2
+    subst Accepted (sym c.shape_row-row.ensures) c.requires.2
 
 pub returns-then-not-first : goal.returns-then-not-first
 returns-then-not-first c =
-    let at-start : Stands c.args.p.shape 0 c.first.result c.first.new.index.0 = subst (λ s. Stands s 0 c.first.result c.first.new.index.0) c.shape_row_lem.ensures c.first.ensures in
+    let at-start : Stands c.args.p.shape 0 c.first.result c.first.new.index = subst (λ s. Stands s 0 c.first.result c.first.new.index) c.shape_row-row.ensures c.first.ensures in
     let a = c in
     let st = at-start in
     let h : length (elements a.args.p.shape) ≤ 0 = ltb-false _ _ (sym st.told ∙ c.if-not-first.true) in
@@ -32,21 +32,21 @@ returns-then-not-first c =
 
 pub address-from-requires : goal.address-from-requires
 address-from-requires c =
-    let pattern : pattern_in c.shape_row_lem.result c.place_row-places.result ≡ c.args.p = pattern-of c.args.p c.shape_row_lem.result c.place_row-places.result c.shape_row_lem.ensures c.place_row-places.ensures in
-    let ranged : RangedPattern (pattern_in c.shape_row_lem.result c.place_row-places.result) = subst RangedPattern (sym (pattern)) c.requires.0 in
-    let at-start : Stands c.args.p.shape 0 c.first.result c.first.new.index.0 = subst (λ s. Stands s 0 c.first.result c.first.new.index.0) c.shape_row_lem.ensures c.first.ensures in
-    let at_first : Stands c.args.p.shape 0 true c.first.new.index.0 = found (c.if-not-first.false) (at-start) in
+    let pattern : pattern_in c.shape_row-row.result c.place_row-places.result ≡ c.args.p = pattern-of c.args.p c.shape_row-row.result c.place_row-places.result c.shape_row-row.ensures c.place_row-places.ensures in
+    let ranged : RangedPattern (pattern_in c.shape_row-row.result c.place_row-places.result) = subst RangedPattern (sym (pattern)) c.requires.0 in
+    let at-start : Stands c.args.p.shape 0 c.first.result c.first.new.index = subst (λ s. Stands s 0 c.first.result c.first.new.index) c.shape_row-row.ensures c.first.ensures in
+    let at_first : Stands c.args.p.shape 0 true c.first.new.index = found (c.if-not-first.false) (at-start) in
     let a = c in (ranged, a.requires.1, small (at_first) a.requires.2)
 
 pub loop-index-init : goal.loop-index-init
 loop-index-init c =
-    let at-start : Stands c.args.p.shape 0 c.first.result c.first.new.index.0 = subst (λ s. Stands s 0 c.first.result c.first.new.index.0) c.shape_row_lem.ensures c.first.ensures in
-    let at_first : Stands c.args.p.shape 0 true c.first.new.index.0 = found (c.if-not-first.false) (at-start) in
+    let at-start : Stands c.args.p.shape 0 c.first.result c.first.new.index = subst (λ s. Stands s 0 c.first.result c.first.new.index) c.shape_row-row.ensures c.first.ensures in
+    let at_first : Stands c.args.p.shape 0 true c.first.new.index = found (c.if-not-first.false) (at-start) in
     at_first
 
 pub next-requires : goal.next-requires
 next-requires c =
-    let e = sym c.shape_row_lem.ensures in
+    let e = sym c.shape_row-row.ensures in
     (subst Accepted e c.requires.2, subst (λ s. Element s c.loop-index.index) e (there c.loop-index.invariant))
 
 pub overflow_add-result : goal.overflow_add-result
@@ -55,18 +55,18 @@ overflow_add-result c =
 
 pub address-requires : goal.address-requires
 address-requires c =
-    let pattern : pattern_in c.shape_row_lem.result c.place_row-places.result ≡ c.args.p = pattern-of c.args.p c.shape_row_lem.result c.place_row-places.result c.shape_row_lem.ensures c.place_row-places.ensures in
-    let ranged : RangedPattern (pattern_in c.shape_row_lem.result c.place_row-places.result) = subst RangedPattern (sym (pattern)) c.requires.0 in
+    let pattern : pattern_in c.shape_row-row.result c.place_row-places.result ≡ c.args.p = pattern-of c.args.p c.shape_row-row.result c.place_row-places.result c.shape_row-row.ensures c.place_row-places.ensures in
+    let ranged : RangedPattern (pattern_in c.shape_row-row.result c.place_row-places.result) = subst RangedPattern (sym (pattern)) c.requires.0 in
     let a = c in (ranged, a.requires.1, small c.loop-index.invariant a.requires.2)
 
 pub returns-then-not-next : goal.returns-then-not-next
 returns-then-not-next c =
-    let pattern : pattern_in c.shape_row_lem.result c.place_row-places.result ≡ c.args.p = pattern-of c.args.p c.shape_row_lem.result c.place_row-places.result c.shape_row_lem.ensures c.place_row-places.ensures in
-    let at-start : Stands c.args.p.shape 0 c.first.result c.first.new.index.0 = subst (λ s. Stands s 0 c.first.result c.first.new.index.0) c.shape_row_lem.ensures c.first.ensures in
-    let at_first : Stands c.args.p.shape 0 true c.first.new.index.0 = found (c.if-not-first.false) (at-start) in
-    let at_next : Stands c.args.p.shape (suc c.loop-index.position) c.next.result c.next.new.index.0 = let l = c.loop-index in
-    subst (λ s. (k : ℕ) → k < length (elements s) → l.index ≡ index_of (get_or (elements s) k []) → Stands s (suc k) c.next.result c.next.new.index.0)
-    c.shape_row_lem.ensures c.next.ensures l.position (below l.invariant) (l.invariant.here refl) in
+    let pattern : pattern_in c.shape_row-row.result c.place_row-places.result ≡ c.args.p = pattern-of c.args.p c.shape_row-row.result c.place_row-places.result c.shape_row-row.ensures c.place_row-places.ensures in
+    let at-start : Stands c.args.p.shape 0 c.first.result c.first.new.index = subst (λ s. Stands s 0 c.first.result c.first.new.index) c.shape_row-row.ensures c.first.ensures in
+    let at_first : Stands c.args.p.shape 0 true c.first.new.index = found (c.if-not-first.false) (at-start) in
+    let at_next : Stands c.args.p.shape (suc c.loop-index.position) c.next.result c.next.new.index = let l = c.loop-index in
+    subst (λ s. (k : ℕ) → k < length (elements s) → l.index ≡ index_of (get_or (elements s) k []) → Stands s (suc k) c.next.result c.next.new.index)
+    c.shape_row-row.ensures c.next.ensures l.position (below l.invariant) (l.invariant.here refl) in
     let a = c in
     let l = c.loop-index in
     let p = a.args.p in
@@ -75,7 +75,7 @@ returns-then-not-next c =
     let n : length (elements p.shape) ≤ suc l.position = ltb-false _ _ (sym st.told ∙ c.if-not-next.true) in
     let e : length (elements p.shape) ≡ suc l.position = omega (arith, below l.invariant) in
     (λ i. extent p.shape.dims p.shape.mods (add-one l.position i)
-    (record { 0 = (c.address-from.ensures.exact ∙ ap (λ q. address q w c.first.new.index.0) (pattern) ∙ lies p w (at_first) a.requires.2) i })
+    (record { 0 = (c.address-from.ensures.exact ∙ ap (λ q. address q w c.first.new.index) (pattern) ∙ lies p w (at_first) a.requires.2) i })
     (record { 0 = (c.address.ensures.exact ∙ ap (λ q. address q w l.index) (pattern) ∙ lies p w l.invariant a.requires.2) i }))
     ∙ sym (extent-some p w l.position e)
 
@@ -89,7 +89,7 @@ loop-index-smaller c =
 
 pub loop-index-preserved : goal.loop-index-preserved
 loop-index-preserved c =
-    let at_next : Stands c.args.p.shape (suc c.loop-index.position) c.next.result c.next.new.index.0 = let l = c.loop-index in
-    subst (λ s. (k : ℕ) → k < length (elements s) → l.index ≡ index_of (get_or (elements s) k []) → Stands s (suc k) c.next.result c.next.new.index.0)
-    c.shape_row_lem.ensures c.next.ensures l.position (below l.invariant) (l.invariant.here refl) in
+    let at_next : Stands c.args.p.shape (suc c.loop-index.position) c.next.result c.next.new.index = let l = c.loop-index in
+    subst (λ s. (k : ℕ) → k < length (elements s) → l.index ≡ index_of (get_or (elements s) k []) → Stands s (suc k) c.next.result c.next.new.index)
+    c.shape_row-row.ensures c.next.ensures l.position (below l.invariant) (l.invariant.here refl) in
     rw (add-one c.loop-index.position) (found (c.if-not-next.false) (at_next))

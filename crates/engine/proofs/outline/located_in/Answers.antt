@@ -14,43 +14,43 @@ use Rattle.engine.proofs.outline.located_in.Goals as goal
 
 pub nth_stop-here-requires : goal.nth_stop-here-requires
 nth_stop-here-requires c =
-    subst Accepted (sym c.shape_row_lem.ensures) c.requires.2
+    subst Accepted (sym c.shape_row-row.ensures) c.requires.2
 
 pub returns-then-not-here : goal.returns-then-not-here
 returns-then-not-here c =
-    let at-nth : Arrives c.args.p.shape c.args.n c.nth_stop-here.result.found c.nth_stop-here.result.empty c.nth_stop-here.new.index = subst (λ s. Arrives s c.args.n c.nth_stop-here.result.found c.nth_stop-here.result.empty c.nth_stop-here.new.index) c.shape_row_lem.ensures c.nth_stop-here.ensures in
+    let at-nth : Arrives c.args.p.shape c.args.n c.nth_stop-here.result.found c.nth_stop-here.result.empty c.nth_stop-here.new.index = subst (λ s. Arrives s c.args.n c.nth_stop-here.result.found c.nth_stop-here.result.empty c.nth_stop-here.new.index) c.shape_row-row.ensures c.nth_stop-here.ensures in
     let a = c.args in
     let n = c.nth_stop-here in
-    sym (located-none a.p a.width a.n (ltb-false _ _ (sym at-nth.told ∙ c.if-not-here.true)))
+    sym (located-none a.p a.width a.n (ltb-false _ _ (sym at-nth.told ∙ not-true n.result.found c.if-not-here.true)))
 
 pub returns-then-here : goal.returns-then-here
 returns-then-here c =
-    let at-nth : Arrives c.args.p.shape c.args.n c.nth_stop-here.result.found c.nth_stop-here.result.empty c.nth_stop-here.new.index = subst (λ s. Arrives s c.args.n c.nth_stop-here.result.found c.nth_stop-here.result.empty c.nth_stop-here.new.index) c.shape_row_lem.ensures c.nth_stop-here.ensures in
+    let at-nth : Arrives c.args.p.shape c.args.n c.nth_stop-here.result.found c.nth_stop-here.result.empty c.nth_stop-here.new.index = subst (λ s. Arrives s c.args.n c.nth_stop-here.result.found c.nth_stop-here.result.empty c.nth_stop-here.new.index) c.shape_row-row.ensures c.nth_stop-here.ensures in
     let at-found : Arrives c.args.p.shape c.args.n true c.nth_stop-here.result.empty c.nth_stop-here.new.index = let n = c.nth_stop-here in
     let a = c.args in
-    subst (λ b. Arrives a.p.shape a.n b n.result.empty n.new.1.0) (c.if-not-here.false) (at-nth) in
+    subst (λ b. Arrives a.p.shape a.n b n.result.empty n.new.index) (not-false n.result.found c.if-not-here.false) (at-nth) in
     let a = c.args in
     let st = at-found in
     sym (located-nothing a.p a.width a.n (stop-below st) (sym (st.nothing refl) ∙ c.if-here.true))
 
 pub address-requires : goal.address-requires
 address-requires c =
-    let pattern : pattern_in c.shape_row_lem.result c.place_row-places.result ≡ c.args.p = pattern-of c.args.p c.shape_row_lem.result c.place_row-places.result c.shape_row_lem.ensures c.place_row-places.ensures in
-    let at-nth : Arrives c.args.p.shape c.args.n c.nth_stop-here.result.found c.nth_stop-here.result.empty c.nth_stop-here.new.index = subst (λ s. Arrives s c.args.n c.nth_stop-here.result.found c.nth_stop-here.result.empty c.nth_stop-here.new.index) c.shape_row_lem.ensures c.nth_stop-here.ensures in
+    let pattern : pattern_in c.shape_row-row.result c.place_row-places.result ≡ c.args.p = pattern-of c.args.p c.shape_row-row.result c.place_row-places.result c.shape_row-row.ensures c.place_row-places.ensures in
+    let at-nth : Arrives c.args.p.shape c.args.n c.nth_stop-here.result.found c.nth_stop-here.result.empty c.nth_stop-here.new.index = subst (λ s. Arrives s c.args.n c.nth_stop-here.result.found c.nth_stop-here.result.empty c.nth_stop-here.new.index) c.shape_row-row.ensures c.nth_stop-here.ensures in
     let at-found : Arrives c.args.p.shape c.args.n true c.nth_stop-here.result.empty c.nth_stop-here.new.index = let n = c.nth_stop-here in
     let a = c.args in
-    subst (λ b. Arrives a.p.shape a.n b n.result.empty n.new.1.0) (c.if-not-here.false) (at-nth) in
+    subst (λ b. Arrives a.p.shape a.n b n.result.empty n.new.index) (not-false n.result.found c.if-not-here.false) (at-nth) in
     let a = c in
     let st = at-found in
     (subst RangedPattern (sym (pattern)) a.requires.0, a.requires.1, λ k. omega (arith, here-small a.args.p.shape a.requires.2 _ _ (stop-here st) k))
 
 pub returns : goal.returns
 returns c =
-    let pattern : pattern_in c.shape_row_lem.result c.place_row-places.result ≡ c.args.p = pattern-of c.args.p c.shape_row_lem.result c.place_row-places.result c.shape_row_lem.ensures c.place_row-places.ensures in
-    let at-nth : Arrives c.args.p.shape c.args.n c.nth_stop-here.result.found c.nth_stop-here.result.empty c.nth_stop-here.new.index = subst (λ s. Arrives s c.args.n c.nth_stop-here.result.found c.nth_stop-here.result.empty c.nth_stop-here.new.index) c.shape_row_lem.ensures c.nth_stop-here.ensures in
+    let pattern : pattern_in c.shape_row-row.result c.place_row-places.result ≡ c.args.p = pattern-of c.args.p c.shape_row-row.result c.place_row-places.result c.shape_row-row.ensures c.place_row-places.ensures in
+    let at-nth : Arrives c.args.p.shape c.args.n c.nth_stop-here.result.found c.nth_stop-here.result.empty c.nth_stop-here.new.index = subst (λ s. Arrives s c.args.n c.nth_stop-here.result.found c.nth_stop-here.result.empty c.nth_stop-here.new.index) c.shape_row-row.ensures c.nth_stop-here.ensures in
     let at-found : Arrives c.args.p.shape c.args.n true c.nth_stop-here.result.empty c.nth_stop-here.new.index = let n = c.nth_stop-here in
     let a = c.args in
-    subst (λ b. Arrives a.p.shape a.n b n.result.empty n.new.1.0) (c.if-not-here.false) (at-nth) in
+    subst (λ b. Arrives a.p.shape a.n b n.result.empty n.new.index) (not-false n.result.found c.if-not-here.false) (at-nth) in
     let a = c in
     let st = at-found in
     ap (λ z. At (record { 0 = z }))

@@ -9,16 +9,16 @@ use Rattle.engine.proofs.outline.outline_of.Goals as goal
 pub returns-then-not-kept : goal.returns-then-not-kept
 returns-then-not-kept c =
     let k = c.stream_after-kept in
-    sym (outline-unended _ (sym k.ensures.told ∙ c.if-not-kept.true))
+    sym (outline-unended _ (sym k.ensures.told ∙ not-true k.result.ended c.if-not-kept.true))
 
 pub extent_of-requires : goal.extent_of-requires
 extent_of-requires c =
     let k = c.stream_after-kept in
-    k.ensures.walkable (c.if-not-kept.false)
+    k.ensures.walkable (not-false k.result.ended c.if-not-kept.false)
 
 pub returns : goal.returns
 returns c =
     let k = c.stream_after-kept in
-    let t = c.if-not-kept.false in
+    let t = not-false k.result.ended c.if-not-kept.false in
     ap Stream (c.extent_of.ensures ∙ (λ i. extent_of (k.ensures.pattern t i) (k.ensures.width t i)))
     ∙ sym (outline-stream _ (sym k.ensures.told ∙ t))

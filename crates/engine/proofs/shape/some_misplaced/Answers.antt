@@ -12,19 +12,19 @@ loop-k-init c =
 
 pub returns-then-misplaced_in : goal.returns-then-misplaced_in
 returns-then-misplaced_in c =
-    let lengthy : length c.args.n ≡ 8 = search (rules, unmapped) in
+    let lengthy : length c.args.modifiers ≡ 8 = search (rules, unmapped) in
     let s = c in
-    sym (first-at (misplaced_in s.args.dims) no_modifier s.args.n s.args.n c.loop-k.k (omega (arith, lengthy)) (omega arith)
+    sym (first-at (misplaced_in s.args.dims) no_modifier s.args.modifiers s.args.n c.loop-k.k (omega (arith, lengthy)) (omega arith)
     (sym c.misplaced_in.ensures ∙ c.if-misplaced_in.true))
 
 pub loop-k-preserved : goal.loop-k-preserved
 loop-k-preserved c =
     let s = c in
     let l = c.loop-k in
-    (omega arith, below_more (λ j. misplaced_in s.args.dims (get_or s.args.n j no_modifier) ≡ false) l.k l.invariant.1 (sym c.misplaced_in.ensures ∙ c.if-misplaced_in.false))
+    (omega arith, below_more (λ j. misplaced_in s.args.dims (get_or s.args.modifiers j no_modifier) ≡ false) l.k l.invariant.1 (sym c.misplaced_in.ensures ∙ c.if-misplaced_in.false))
 
 pub returns : goal.returns
 returns c =
-    let lengthy : length c.args.n ≡ 8 = search (rules, unmapped) in
+    let lengthy : length c.args.modifiers ≡ 8 = search (rules, unmapped) in
     let s = c in
-    sym (first-none (misplaced_in s.args.dims) no_modifier s.args.n s.args.n (omega (arith, lengthy)) (λ j h. c.loop-k.invariant.1 j (omega arith)))
+    sym (first-none (misplaced_in s.args.dims) no_modifier s.args.modifiers s.args.n (omega (arith, lengthy)) (λ j h. c.loop-k.invariant.1 j (omega arith)))

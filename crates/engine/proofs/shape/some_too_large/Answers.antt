@@ -10,20 +10,20 @@ loop-k-init c =
 
 pub returns-then-sizes-k-gt4096 : goal.returns-then-sizes-k-gt4096
 returns-then-sizes-k-gt4096 c =
-    let l = c.args.t1 in
+    let l = c.args.sizes in
     let k = c.loop-k.k in
     let n : length l ≡ 7 = search rules in
     sym (some_at too_large 0 l k (omega arith) (lt-ltb 4096 (get_or l k 0) c.if-sizes-k-gt4096.true))
 
 pub loop-k-preserved : goal.loop-k-preserved
 loop-k-preserved c =
-    let l = c.args.t1 in
+    let l = c.args.sizes in
     let k = c.loop-k.k in
     let e : too_large (get_or l k 0) ≡ false = le-ltb 4096 (get_or l k 0) (omega arith) in
     (omega arith, below_more (λ j. too_large (get_or l j 0) ≡ false) k c.loop-k.invariant.1 e)
 
 pub returns : goal.returns
 returns c =
-    let l = c.args.t1 in
+    let l = c.args.sizes in
     let n : length l ≡ 7 = search rules in
     sym (some-none too_large 0 l (λ j h. c.loop-k.invariant.1 j (omega arith)))

@@ -31,18 +31,18 @@ pub row_within-requires : goal.row_within-requires
 row_within-requires c =
     let part : Part (get_or c.args.parts.now c.loop-k.k []) = c.requires.1.1 c.loop-k.k c.loop-k-test.true in
     let count : c.count_of-n.result ≤ 64 = omega (arith, c.count_of-n.ensures, part.count) in
-    let fits : (c.count_of-n.result ≤ 64) × ((c.args.width ≤ 8) × ((nat_abs c.start_of_lem.result.0 ≤ 2 ^ 55) × (nat_abs c.step_of_lem.result.0 ≤ 2 ^ 51))) = let p = part in
+    let fits : (c.count_of-n.result ≤ 64) × ((c.args.width ≤ 8) × ((nat_abs c.start_of-start.result.0 ≤ 2 ^ 55) × (nat_abs c.step_of-step.result.0 ≤ 2 ^ 51))) = let p = part in
     let s = c in
-    (count, (s.requires.1.0, (rw c.start_of_lem.ensures p.start, rw c.step_of_lem.ensures p.step))) in
+    (count, (s.requires.1.0, (rw c.start_of-start.ensures p.start, rw c.step_of-step.ensures p.step))) in
     fits
 
 pub lane_outside-lane-requires : goal.lane_outside-lane-requires
 lane_outside-lane-requires c =
     let part : Part (get_or c.args.parts.now c.loop-k.k []) = c.requires.1.1 c.loop-k.k c.loop-k-test.true in
     let count : c.count_of-n.result ≤ 64 = omega (arith, c.count_of-n.ensures, part.count) in
-    let fits : (c.count_of-n.result ≤ 64) × ((c.args.width ≤ 8) × ((nat_abs c.start_of_lem.result.0 ≤ 2 ^ 55) × (nat_abs c.step_of_lem.result.0 ≤ 2 ^ 51))) = let p = part in
+    let fits : (c.count_of-n.result ≤ 64) × ((c.args.width ≤ 8) × ((nat_abs c.start_of-start.result.0 ≤ 2 ^ 55) × (nat_abs c.step_of-step.result.0 ≤ 2 ^ 51))) = let p = part in
     let s = c in
-    (count, (s.requires.1.0, (rw c.start_of_lem.ensures p.start, rw c.step_of_lem.ensures p.step))) in
+    (count, (s.requires.1.0, (rw c.start_of-start.ensures p.start, rw c.step_of-step.ensures p.step))) in
     fits
 
 pub overflow_add-result : goal.overflow_add-result
@@ -57,9 +57,9 @@ pub returns-then-not-row_within : goal.returns-then-not-row_within
 returns-then-not-row_within c =
     let part : Part (get_or c.args.parts.now c.loop-k.k []) = c.requires.1.1 c.loop-k.k c.loop-k-test.true in
     let there : c.loop-k.k < length c.args.parts.now = part-there c.args.parts.now c.loop-k.k part.three in
-    let row : let a = c.args in let l = c.loop-k in progression c.start_of_lem.result.0 c.step_of_lem.result.0 c.count_of-n.result ≡ addresses_in (get_or a.parts.now l.k []) = let a = c.args in
+    let row : let a = c.args in let l = c.loop-k in progression c.start_of-start.result.0 c.step_of-step.result.0 c.count_of-n.result ≡ addresses_in (get_or a.parts.now l.k []) = let a = c.args in
     let l = c.loop-k in
-    part-is (get_or a.parts.now l.k []) c.start_of_lem.ensures c.step_of_lem.ensures c.count_of-n.ensures in
+    part-is (get_or a.parts.now l.k []) c.start_of-start.ensures c.step_of-step.ensures c.count_of-n.ensures in
     let answer : let a = c.args in let l = c.loop-k in all_within a.len a.width (addresses_in (get_or a.parts.now l.k [])) ≡ c.row_within.result = let a = c.args in
     sym (c.row_within.ensures ∙ ap (all_within a.len a.width) (row)) in
     let a = c.args in
@@ -87,9 +87,9 @@ loop-k-preserved c =
     let part : Part (get_or c.args.parts.now c.loop-k.k []) = c.requires.1.1 c.loop-k.k c.loop-k-test.true in
     let there : c.loop-k.k < length c.args.parts.now = part-there c.args.parts.now c.loop-k.k part.three in
     let count : c.count_of-n.result ≤ 64 = omega (arith, c.count_of-n.ensures, part.count) in
-    let row : let a = c.args in let l = c.loop-k in progression c.start_of_lem.result.0 c.step_of_lem.result.0 c.count_of-n.result ≡ addresses_in (get_or a.parts.now l.k []) = let a = c.args in
+    let row : let a = c.args in let l = c.loop-k in progression c.start_of-start.result.0 c.step_of-step.result.0 c.count_of-n.result ≡ addresses_in (get_or a.parts.now l.k []) = let a = c.args in
     let l = c.loop-k in
-    part-is (get_or a.parts.now l.k []) c.start_of_lem.ensures c.step_of_lem.ensures c.count_of-n.ensures in
+    part-is (get_or a.parts.now l.k []) c.start_of-start.ensures c.step_of-step.ensures c.count_of-n.ensures in
     let answer : let a = c.args in let l = c.loop-k in all_within a.len a.width (addresses_in (get_or a.parts.now l.k [])) ≡ c.row_within.result = let a = c.args in
     sym (c.row_within.ensures ∙ ap (all_within a.len a.width) (row)) in
     let a = c.args in

@@ -33,20 +33,20 @@ count_of-n-requires c =
 pub read_part-requires : goal.read_part-requires
 read_part-requires c =
     let part : Part (get_or c.args.parts.now c.loop-k.k []) = c.requires.m_bound.1 c.loop-k.k c.loop-k-test.true in
-    let row : progression c.start_of_lem.result.0 c.step_of_lem.result.0 c.count_of-n.result ≡ addresses_in (get_or c.args.parts.now c.loop-k.k []) = part-is (get_or c.args.parts.now c.loop-k.k []) c.start_of_lem.ensures c.step_of_lem.ensures c.count_of-n.ensures in
+    let row : progression c.start_of-start.result.0 c.step_of-step.result.0 c.count_of-n.result ≡ addresses_in (get_or c.args.parts.now c.loop-k.k []) = part-is (get_or c.args.parts.now c.loop-k.k []) c.start_of-start.ensures c.step_of-step.ensures c.count_of-n.ensures in
     let room : c.loop-k.at * c.args.width + c.count_of-n.result * c.args.width ≤ 64 = let i = c in
     let s = i in
-    lanes-room s.args.parts.now i.loop-k.k s.args.m s.args.width (omega arith) (parts-there s.args.parts.now s.args.m s.requires.m_bound.1) i.loop-k.invariant.1 c.count_of-n.ensures s.requires.le_width.0.1 in
+    lanes-room s.args.parts.now i.loop-k.k s.args.m s.args.width (omega arith) (parts-there s.args.parts.now s.args.m s.requires.m_bound.1) i.loop-k.invariant.1 c.count_of-n.ensures s.requires.le_width.1 in
     let d = c in
     let i = d in
     let s = i in
     let a = s.args in
     let p = part in (
-      (s.requires.le_width.0.0, room),
+      (s.requires.le_width.0, room),
       (
-        (rw d.start_of_lem.ensures p.start, rw d.step_of_lem.ensures p.step),
+        (rw d.start_of-start.ensures p.start, rw d.step_of-step.ensures p.step),
         ap (all_within (length a.memory.now) a.width) (row)
-            ∙ part-inside (length a.memory.now) a.width a.parts.now i.loop-k.k a.m (omega arith) (parts-there a.parts.now a.m s.requires.m_bound.1) s.requires.le_width.1,
+            ∙ part-inside (length a.memory.now) a.width a.parts.now i.loop-k.k a.m (omega arith) (parts-there a.parts.now a.m s.requires.m_bound.1) s.requires.parts_value,
       ),
     )
 
@@ -54,26 +54,26 @@ pub overflow_add-at : goal.overflow_add-at
 overflow_add-at c =
     let room : c.loop-k.at * c.args.width + c.count_of-n.result * c.args.width ≤ 64 = let i = c in
     let s = i in
-    lanes-room s.args.parts.now i.loop-k.k s.args.m s.args.width (omega arith) (parts-there s.args.parts.now s.args.m s.requires.m_bound.1) i.loop-k.invariant.1 c.count_of-n.ensures s.requires.le_width.0.1 in
+    lanes-room s.args.parts.now i.loop-k.k s.args.m s.args.width (omega arith) (parts-there s.args.parts.now s.args.m s.requires.m_bound.1) i.loop-k.invariant.1 c.count_of-n.ensures s.requires.le_width.1 in
     let few : (c.loop-k.at ≤ 64) × (c.count_of-n.result ≤ 64) = let s = c in
     let h = room in
-    (few-lanes c.loop-k.at s.args.width s.requires.le_width.0.0.0 (omega arith), few-lanes c.count_of-n.result s.args.width s.requires.le_width.0.0.0 (omega arith)) in
+    (few-lanes c.loop-k.at s.args.width s.requires.le_width.0.0 (omega arith), few-lanes c.count_of-n.result s.args.width s.requires.le_width.0.0 (omega arith)) in
     let f = few in omega arith
 
 pub loop-k-preserved : goal.loop-k-preserved
 loop-k-preserved c =
     let part : Part (get_or c.args.parts.now c.loop-k.k []) = c.requires.m_bound.1 c.loop-k.k c.loop-k-test.true in
     let there : c.loop-k.k < length c.args.parts.now = part-there c.args.parts.now c.loop-k.k part.three in
-    let row : progression c.start_of_lem.result.0 c.step_of_lem.result.0 c.count_of-n.result ≡ addresses_in (get_or c.args.parts.now c.loop-k.k []) = part-is (get_or c.args.parts.now c.loop-k.k []) c.start_of_lem.ensures c.step_of_lem.ensures c.count_of-n.ensures in
+    let row : progression c.start_of-start.result.0 c.step_of-step.result.0 c.count_of-n.result ≡ addresses_in (get_or c.args.parts.now c.loop-k.k []) = part-is (get_or c.args.parts.now c.loop-k.k []) c.start_of-start.ensures c.step_of-step.ensures c.count_of-n.ensures in
     let room : c.loop-k.at * c.args.width + c.count_of-n.result * c.args.width ≤ 64 = let i = c in
     let s = i in
-    lanes-room s.args.parts.now i.loop-k.k s.args.m s.args.width (omega arith) (parts-there s.args.parts.now s.args.m s.requires.m_bound.1) i.loop-k.invariant.1 c.count_of-n.ensures s.requires.le_width.0.1 in
+    lanes-room s.args.parts.now i.loop-k.k s.args.m s.args.width (omega arith) (parts-there s.args.parts.now s.args.m s.requires.m_bound.1) i.loop-k.invariant.1 c.count_of-n.ensures s.requires.le_width.1 in
     let d = c in
     let i = d in
     let a = i.args in
     let l = i.loop-k in
-    let start = d.start_of_lem.result.0 in
-    let step = d.step_of_lem.result.0 in
+    let start = d.start_of-start.result.0 in
+    let step = d.step_of-step.result.0 in
     let n = d.count_of-n.result in
     let q = sym (length-progression start step n) in (
       omega arith,

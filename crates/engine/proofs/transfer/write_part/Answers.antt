@@ -23,7 +23,7 @@ place-requires c =
     let a = s.args in
     let m = length a.memory.now in
     let e = c.adjacent.ensures c.if-adjacent.true in
-    (row-place m a.width a.start.0 a.step.0 a.n (some) e s.requires.start_bound.1, row_room m a.width a.start.0 a.step.0 a.n (some) e s.requires.start_bound.1) in
+    (row-place m a.width a.start.0 a.step.0 a.n (some) e s.requires.n_value, row_room m a.width a.start.0 a.step.0 a.n (some) e s.requires.n_value) in
     (beside).0
 
 pub copy-requires : goal.copy-requires
@@ -33,7 +33,7 @@ copy-requires c =
     let a = s.args in
     let m = length a.memory.now in
     let e = c.adjacent.ensures c.if-adjacent.true in
-    (row-place m a.width a.start.0 a.step.0 a.n (some) e s.requires.start_bound.1, row_room m a.width a.start.0 a.step.0 a.n (some) e s.requires.start_bound.1) in
+    (row-place m a.width a.start.0 a.step.0 a.n (some) e s.requires.n_value, row_room m a.width a.start.0 a.step.0 a.n (some) e s.requires.n_value) in
     let m : length c.args.lanes.now ≡ 64 = search rules in
     (omega arith, omega (arith, c.place.ensures.0, (beside).1))
 
@@ -47,7 +47,7 @@ returns-then-adjacent c =
     let n : length a.lanes.now ≡ 64 = search rules in
     c.copy.ensures.0
     ∙ ap (λ i. sets m i (take (a.n * a.width) (drop (a.at * a.width) a.lanes.now))) c.place.ensures.0
-    ∙ row-written-from (length m) a.width a.start.0 a.step.0 a.n (some) (d.adjacent.ensures d.if-adjacent.true) s.requires.start_bound.1 m a.lanes.now (a.at * a.width) (c.copy.ensures.1 (many a.n a.width (some) s.requires.le_width.0.0)) (omega arith)
+    ∙ row-written-from (length m) a.width a.start.0 a.step.0 a.n (some) (d.adjacent.ensures d.if-adjacent.true) s.requires.n_value m a.lanes.now (a.at * a.width) (c.copy.ensures.1 (many a.n a.width (some) s.requires.le_width.0.0)) (omega arith)
 
 pub loop-k-init : goal.loop-k-init
 loop-k-init c =
@@ -56,7 +56,7 @@ loop-k-init c =
       omega arith,
       few-lanes a.n a.width s.requires.le_width.0.0 (omega arith),
       sym (further-none a.start.0 a.step.0),
-      s.requires.start_bound.0.0,
+      s.requires.start_bound.0,
       refl,
       sym (stored-none a.memory.now a.width (progression a.start.0 a.step.0 a.n) []),
     )
@@ -79,7 +79,7 @@ write_lane-requires c =
         s.requires.le_width.0.1,
         ap (λ len. inside len a.width l.a.0) l.invariant.4
             ∙ ap (inside (length a.memory.now) a.width) (found)
-            ∙ within-at (length a.memory.now) a.width (progression a.start.0 a.step.0 a.n) l.k s.requires.start_bound.1 (omega (arith, length-progression a.start.0 a.step.0 a.n)),
+            ∙ within-at (length a.memory.now) a.width (progression a.start.0 a.step.0 a.n) l.k s.requires.n_value (omega (arith, length-progression a.start.0 a.step.0 a.n)),
       ),
     )
 
@@ -99,7 +99,7 @@ loop-k-preserved c =
       omega arith,
       omega arith,
       c.plus-a.ensures.exact ∙ ap (λ z. z +ℤ a.step.0) l.invariant.2 ∙ further-more a.start.0 a.step.0 l.k,
-      omega (arith, c.plus-a.ensures.most, s.requires.start_bound.0.1),
+      omega (arith, c.plus-a.ensures.most, s.requires.start_bound.1),
       ap length e ∙ simp length-sets l.invariant.4,
       stored-further a.memory.now a.width row a.lanes.now (a.at * a.width) a.n l.k (length-progression a.start.0 a.step.0 a.n) (omega arith) (found) (add-mul a.at l.k a.width) l.invariant.5 e,
     )

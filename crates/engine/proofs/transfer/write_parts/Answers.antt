@@ -33,10 +33,10 @@ count_of-n-requires c =
 pub write_part-requires : goal.write_part-requires
 write_part-requires c =
     let part : Part (get_or c.args.parts.now c.loop-k.k []) = c.requires.m_bound.1 c.loop-k.k c.loop-k-test.true in
-    let row : progression c.start_of_lem.result.0 c.step_of_lem.result.0 c.count_of-n.result ≡ addresses_in (get_or c.args.parts.now c.loop-k.k []) = part-is (get_or c.args.parts.now c.loop-k.k []) c.start_of_lem.ensures c.step_of_lem.ensures c.count_of-n.ensures in
+    let row : progression c.start_of-start.result.0 c.step_of-step.result.0 c.count_of-n.result ≡ addresses_in (get_or c.args.parts.now c.loop-k.k []) = part-is (get_or c.args.parts.now c.loop-k.k []) c.start_of-start.ensures c.step_of-step.ensures c.count_of-n.ensures in
     let room : c.loop-k.at * c.args.width + c.count_of-n.result * c.args.width ≤ 64 = let i = c in
     let s = i in
-    lanes-room s.args.parts.now i.loop-k.k s.args.m s.args.width (omega arith) (parts-there s.args.parts.now s.args.m s.requires.m_bound.1) i.loop-k.invariant.1 c.count_of-n.ensures s.requires.le_width.0.1 in
+    lanes-room s.args.parts.now i.loop-k.k s.args.m s.args.width (omega arith) (parts-there s.args.parts.now s.args.m s.requires.m_bound.1) i.loop-k.invariant.1 c.count_of-n.ensures s.requires.le_width.1 in
     let d = c in
     let i = d in
     let s = i in
@@ -44,10 +44,10 @@ write_part-requires c =
     let l = i.loop-k in
     let p = part in
     let w : all_within (length a.memory.now) a.width (addresses_in (get_or a.parts.now l.k [])) ≡ true =
-    part-inside (length a.memory.now) a.width a.parts.now l.k a.m (omega arith) (parts-there a.parts.now a.m s.requires.m_bound.1) s.requires.le_width.1 in (
-      (s.requires.le_width.0.0, room),
+    part-inside (length a.memory.now) a.width a.parts.now l.k a.m (omega arith) (parts-there a.parts.now a.m s.requires.m_bound.1) s.requires.parts_value in (
+      (s.requires.le_width.0, room),
       (
-        (rw d.start_of_lem.ensures p.start, rw d.step_of_lem.ensures p.step),
+        (rw d.start_of-start.ensures p.start, rw d.step_of-step.ensures p.step),
         ap (all_within (length l.memory) a.width) (row) ∙ ap (λ len. all_within len a.width (addresses_in (get_or a.parts.now l.k []))) l.invariant.2 ∙ w,
       ),
     )
@@ -56,23 +56,23 @@ pub overflow_add-at : goal.overflow_add-at
 overflow_add-at c =
     let room : c.loop-k.at * c.args.width + c.count_of-n.result * c.args.width ≤ 64 = let i = c in
     let s = i in
-    lanes-room s.args.parts.now i.loop-k.k s.args.m s.args.width (omega arith) (parts-there s.args.parts.now s.args.m s.requires.m_bound.1) i.loop-k.invariant.1 c.count_of-n.ensures s.requires.le_width.0.1 in
+    lanes-room s.args.parts.now i.loop-k.k s.args.m s.args.width (omega arith) (parts-there s.args.parts.now s.args.m s.requires.m_bound.1) i.loop-k.invariant.1 c.count_of-n.ensures s.requires.le_width.1 in
     let few : (c.loop-k.at ≤ 64) × (c.count_of-n.result ≤ 64) = let s = c in
     let h = room in
-    (few-lanes c.loop-k.at s.args.width s.requires.le_width.0.0.0 (omega arith), few-lanes c.count_of-n.result s.args.width s.requires.le_width.0.0.0 (omega arith)) in
+    (few-lanes c.loop-k.at s.args.width s.requires.le_width.0.0 (omega arith), few-lanes c.count_of-n.result s.args.width s.requires.le_width.0.0 (omega arith)) in
     let f = few in omega arith
 
 pub loop-k-preserved : goal.loop-k-preserved
 loop-k-preserved c =
     let part : Part (get_or c.args.parts.now c.loop-k.k []) = c.requires.m_bound.1 c.loop-k.k c.loop-k-test.true in
     let there : c.loop-k.k < length c.args.parts.now = part-there c.args.parts.now c.loop-k.k part.three in
-    let row : progression c.start_of_lem.result.0 c.step_of_lem.result.0 c.count_of-n.result ≡ addresses_in (get_or c.args.parts.now c.loop-k.k []) = part-is (get_or c.args.parts.now c.loop-k.k []) c.start_of_lem.ensures c.step_of_lem.ensures c.count_of-n.ensures in
+    let row : progression c.start_of-start.result.0 c.step_of-step.result.0 c.count_of-n.result ≡ addresses_in (get_or c.args.parts.now c.loop-k.k []) = part-is (get_or c.args.parts.now c.loop-k.k []) c.start_of-start.ensures c.step_of-step.ensures c.count_of-n.ensures in
     let d = c in
     let i = d in
     let a = i.args in
     let l = i.loop-k in
-    let start = d.start_of_lem.result.0 in
-    let step = d.step_of_lem.result.0 in
+    let start = d.start_of-start.result.0 in
+    let step = d.step_of-step.result.0 in
     let n = d.count_of-n.result in
     let q = sym (length-progression start step n) in
     let e = c.write_part.ensures in (

@@ -13,7 +13,7 @@ pub returns-then-shape-eq0 : goal.returns-then-shape-eq0
 returns-then-shape-eq0 c =
     let a = c in
     let row = a.args.shape.now in
-    arrives-element (shape_in row) (uncoupled-in (get_or row 49 0) (get_or row 50 0) c.if-shape-eq0.true) 0 c.first-found.result c.first-found.new.index.0 c.first-found.ensures
+    arrives-element (shape_in row) (uncoupled-in (get_or row 49 0) (get_or row 50 0) c.if-shape-eq0.true) 0 c.first-found.result c.first-found.new.index c.first-found.ensures
 
 pub enter-requires : goal.enter-requires
 enter-requires c =

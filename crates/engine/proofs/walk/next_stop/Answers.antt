@@ -31,7 +31,7 @@ returns-then-shape-eq0 c =
     let a = c in
     let y = uncoupled-in (get_or a.args.shape.now 49 0) (dimension) c.if-shape-eq0.true in
     let u : stops (shape_at) ≡ elements (shape_at) = stops-uncoupled (shape_at) y in
-    arrives-element (shape_at) y (suc k) c.next-found.result c.next-found.new.index.0
+    arrives-element (shape_at) y (suc k) c.next-found.result c.next-found.new.index
     (c.next-found.ensures k (subst (λ l. k < length l) u q) (e ∙ ap (λ l. index_of (get_or l k [])) u))
 
 pub next_pass-requires : goal.next_pass-requires
@@ -69,7 +69,7 @@ returns-then-empty c =
     let w = c in
     let a = w in
     let r = c.next_pass in
-    arrives (shape_at) (dimension) (coupled) (suc k) r.result.found r.result.empty r.new.1.0
+    arrives (shape_at) (dimension) (coupled) (suc k) r.result.found r.result.empty r.new.index
     (comes-same (shape_at) (dimension) (later true [] c.if-empty.true refl k q e) r.ensures)
 
 pub overflow_add-index : goal.overflow_add-index
@@ -180,7 +180,7 @@ returns c =
     let a = w in
     let r = c.next_pass-2 in
     let some = c.if-empty.false in
-    arrives (shape_at) (dimension) (coupled) (suc k) r.result.found r.result.empty r.new.1.0
+    arrives (shape_at) (dimension) (coupled) (suc k) r.result.found r.result.empty r.new.index
     (comes-same (shape_at) (dimension)
     (later false [] some (in-pass false c.if-seek.false) k q e
     ∙ ap (λ o. join (map (pass_stops (size_at (shape_at)) (dimension)) (passes_after (size_at (shape_at)) (dimension) shape_at.dims o))) (sym (outside)))

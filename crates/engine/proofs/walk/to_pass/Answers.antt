@@ -14,7 +14,7 @@ pub returns-then-seek : goal.returns-then-seek
 returns-then-seek c =
     let a = c.args in
     let k = c.seek in
-    to-first (shape_in a.shape.now) a.c _ (drop a.c k.new.1.0) _ k.result k.ensures.0 c.if-seek.true c.enter.result.found c.enter.result.empty c.enter.new.index
+    to-first (shape_in a.shape.now) a.c _ (drop a.c k.new.index) _ k.result k.ensures.index_value c.if-seek.true c.enter.result.found c.enter.result.empty c.enter.new.index
     c.enter.ensures.found_value c.enter.ensures.comes
 
 pub returns : goal.returns
