@@ -24,14 +24,14 @@ stops-coupled (suc n) c found h z e = rw e
 
 pub returns-then-not-found : goal.returns-then-not-found
 returns-then-not-found c =
-    let s = c.args.shape.now in stops-none (coupling_in (get_or s 49 0) (get_or s 50 0)) c.args.found c.args.height (not-true c.args.found c.if-not-found.true)
+    let s = c.args.shape.now in stops-none (coupling_in (get_or s 49 0) (get_or s 50 0)) c.args.found c.args.height c.if-not-found.true
 
 pub returns-then-shape-eq0 : goal.returns-then-shape-eq0
 returns-then-shape-eq0 c =
     let a = c.args in
-    stops-free (get_or a.shape.now 49 0) (get_or a.shape.now 50 0) a.found a.height c.if-shape-eq0.true (not-false a.found c.if-not-found.false)
+    stops-free (get_or a.shape.now 49 0) (get_or a.shape.now 50 0) a.found a.height c.if-shape-eq0.true c.if-not-found.false
 
 pub returns : goal.returns
 returns c =
     let a = c.args in
-    stops-coupled (get_or a.shape.now 49 0) (get_or a.shape.now 50 0) a.found a.height c.if-shape-eq0.false (not-false a.found c.if-not-found.false)
+    stops-coupled (get_or a.shape.now 49 0) (get_or a.shape.now 50 0) a.found a.height c.if-shape-eq0.false c.if-not-found.false

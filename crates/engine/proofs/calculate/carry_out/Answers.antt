@@ -19,13 +19,16 @@ pub read_second-requires : goal.read_second-requires
 read_second-requires c =
     let a = c in
     let w = a.requires.within in
-    let p : a.args.same ≡ false → cond a.args.same a.args.xs.now a.args.ys.now ≡ a.args.ys.now = λ e. ap (λ b. cond b a.args.xs.now a.args.ys.now) e in record { le_width = (
+    let p : a.args.same ≡ false → cond a.args.same a.args.xs.now a.args.ys.now ≡ a.args.ys.now = λ e. ap (λ b. cond b a.args.xs.now a.args.ys.now) e in record {
+      le_width = (
         width-range _ w.wide,
         λ e t. (
           subst (λ l. length (listed_in a.args.y l) * a.args.width ≤ 64) (p e) (subst (λ k. k * a.args.width ≤ 64) (sym (w.second_long t ∙ w.counts)) w.room),
           subst (Parts a.args.y.parts) (p e) w.parts.1.0,
         ),
-      ); parts_value = λ e t. subst (λ l. all_within (length a.args.memory.now) a.args.width (listed_in a.args.y l) ≡ true) (p e) (w.second t) }
+      );
+      parts_value = λ e t. subst (λ l. all_within (length a.args.memory.now) a.args.width (listed_in a.args.y l) ≡ true) (p e) (w.second t);
+    }
 
 pub calculate_lanes-requires : goal.calculate_lanes-requires
 calculate_lanes-requires c =
@@ -51,16 +54,16 @@ after_write-requires c =
 
 pub returns : goal.returns
 returns c =
-    let second-bytes : let a = c.args in c.read_second.new.lanes ≡ cond a.y.live (packed a.width (fetched_at a.memory.now a.width (listed_in a.y (cond a.same a.xs.now a.ys.now)))) a.lb.now = go c.args.same refl
-  where
-    go : (b : Bool) → c.args.same ≡ b
-        → c.read_second.new.lanes ≡ cond c.args.y.live (packed c.args.width (fetched_at c.args.memory.now c.args.width (listed_in c.args.y (cond c.args.same c.args.xs.now c.args.ys.now)))) c.args.lb.now
-    go true e =
-        let a = c in
-        let h = a.requires.y_value e in
-        rw e ((rw e at c.read_second.ensures) ∙ c.read_source.ensures
-        ∙ (λ i. cond (sym h.0 i).live (packed a.args.width (fetched_at a.args.memory.now a.args.width (listed_in (sym h.0 i) a.args.xs.now))) (sym h.1 i)))
-    go false e = rw e (rw e at c.read_second.ensures) in
+    let chosen : (b : Bool) → c.args.same ≡ b
+    → c.read_second.new.lanes ≡ cond c.args.y.live (packed c.args.width (fetched_at c.args.memory.now c.args.width (listed_in c.args.y (cond c.args.same c.args.xs.now c.args.ys.now)))) c.args.lb.now = λ b. elim b as (λ v. c.args.same ≡ v → c.read_second.new.lanes ≡ cond c.args.y.live (packed c.args.width (fetched_at c.args.memory.now c.args.width (listed_in c.args.y (cond c.args.same c.args.xs.now c.args.ys.now)))) c.args.lb.now) [
+      | true ↦ λ e.
+          let a = c in
+          let h = a.requires.y_value e in
+          rw e ((rw e at c.read_second.ensures) ∙ c.read_source.ensures
+          ∙ (λ i. cond (sym h.0 i).live (packed a.args.width (fetched_at a.args.memory.now a.args.width (listed_in (sym h.0 i) a.args.xs.now))) (sym h.1 i)))
+      | false ↦ λ e. rw e (rw e at c.read_second.ensures)
+    ] in
+    let second-bytes : let a = c.args in c.read_second.new.lanes ≡ cond a.y.live (packed a.width (fetched_at a.memory.now a.width (listed_in a.y (cond a.same a.xs.now a.ys.now)))) a.lb.now = chosen c.args.same refl in
     let a = c in
     let w = a.requires.within in
     let m = a.args.memory.now in

@@ -53,17 +53,16 @@ pub second_source-y-requires : goal.second_source-y-requires
 second_source-y-requires c =
     let a = c in
     let x = c.as_source-x in
-    let m = c.lanes-most.result in (
-      (c.lanes-most.ensures.1, a.requires.xs_len.1.0),
-      (
-        (ready a.args.vl (pattern_at a.args.shapes.now a.args.places.now a.args.j) a.args.vb.now a.args.b a.requires.fit.1.0, a.requires.fit.1.0.remembers),
-        λ t.
-            let e = a.requires.b_value t in
-            subst (λ q. Taken (pattern_at a.args.shapes.now a.args.places.now a.args.j) a.args.vb.now q m q.valid x.new.index x.new.parts x.result) (sym e.0)
-            (subst (λ v. Taken (pattern_at a.args.shapes.now a.args.places.now a.args.j) v a.args.a m a.args.a.valid x.new.index x.new.parts x.result) (sym e.1.1)
-            (subst (λ n. Taken (pattern_at a.args.shapes.now a.args.places.now n) a.args.va.now a.args.a m a.args.a.valid x.new.index x.new.parts x.result) (sym e.1.0) x.ensures)),
-      ),
-    )
+    let m = c.lanes-most.result in record {
+      most_bound = (c.lanes-most.ensures.1, a.requires.xs_len.1.0);
+      ready =
+          (ready a.args.vl (pattern_at a.args.shapes.now a.args.places.now a.args.j) a.args.vb.now a.args.b a.requires.fit.1.0, a.requires.fit.1.0.remembers);
+      taken = λ t.
+          let e = a.requires.b_value t in
+          subst (λ q. Taken (pattern_at a.args.shapes.now a.args.places.now a.args.j) a.args.vb.now q m q.valid x.new.index x.new.parts x.result) (sym e.0)
+          (subst (λ v. Taken (pattern_at a.args.shapes.now a.args.places.now a.args.j) v a.args.a m a.args.a.valid x.new.index x.new.parts x.result) (sym e.1.1)
+          (subst (λ n. Taken (pattern_at a.args.shapes.now a.args.places.now n) a.args.va.now a.args.a m a.args.a.valid x.new.index x.new.parts x.result) (sym e.1.0) x.ensures));
+    }
 
 pub offset_bounds-shapes-t : goal.offset_bounds-shapes-t
 offset_bounds-shapes-t c =

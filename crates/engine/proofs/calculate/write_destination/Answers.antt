@@ -14,7 +14,11 @@ pub write_parts-requires : goal.write_parts-requires
 write_parts-requires c =
     let a = c in
     let f = a.requires.parts_len (not-false a.args.o.live c.if-not-o.false) in
-    (f.0.1, ((a.requires.le_width.0, subst (λ k. k * a.args.width ≤ 64) (sym f.0.0) a.requires.le_width.1), f.1))
+    record {
+      m_bound = f.0.1;
+      le_width = (a.requires.le_width.0, subst (λ k. k * a.args.width ≤ 64) (sym f.0.0) a.requires.le_width.1);
+      parts_value = f.1;
+    }
 
 pub returns : goal.returns
 returns c =

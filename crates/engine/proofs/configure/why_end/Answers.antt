@@ -31,11 +31,11 @@ returns-then-low_or_high c =
     let configuring : is_configuring c.args.r.state ≡ true = sym c.is_configuring.ensures ∙ c.if-not-is_configuring.false in
     let some : eqb (shape_of c.args.r).dims 0 ≡ false = ne_eqb _ _ c.if-s-eq0.false in
     let covered : uncovered (shape_of c.args.r) (shape_of c.args.r).coupling ≡ false = sym c.uncovered.ensures ∙ c.if-uncovered.false in
-    rw (configuring, some, covered, sym c.Low-or-High.ensures ∙ c.if-low_or_high.true)
+    rw (configuring, some, covered, sym c.low_or_high.ensures ∙ c.if-low_or_high.true)
 
 pub product_over-requires : goal.product_over-requires
 product_over-requires c =
-    let bounded : low_or_high (shape_of c.args.r) ≡ false = sym c.Low-or-High.ensures ∙ c.if-low_or_high.false in
+    let bounded : low_or_high (shape_of c.args.r) ≡ false = sym c.low_or_high.ensures ∙ c.if-low_or_high.false in
     (c.requires, bounded)
 
 pub returns-then-product_over : goal.returns-then-product_over
@@ -44,7 +44,7 @@ returns-then-product_over c =
     let configuring : is_configuring c.args.r.state ≡ true = sym c.is_configuring.ensures ∙ c.if-not-is_configuring.false in
     let some : eqb (shape_of c.args.r).dims 0 ≡ false = ne_eqb _ _ c.if-s-eq0.false in
     let covered : uncovered (shape_of c.args.r) (shape_of c.args.r).coupling ≡ false = sym c.uncovered.ensures ∙ c.if-uncovered.false in
-    let bounded : low_or_high (shape_of c.args.r) ≡ false = sym c.Low-or-High.ensures ∙ c.if-low_or_high.false in
+    let bounded : low_or_high (shape_of c.args.r) ≡ false = sym c.low_or_high.ensures ∙ c.if-low_or_high.false in
     rw (configuring, some, covered, bounded, sym c.product_over.ensures ∙ c.if-product_over.true)
 
 pub returns : goal.returns
@@ -53,5 +53,5 @@ returns c =
     let configuring : is_configuring c.args.r.state ≡ true = sym c.is_configuring.ensures ∙ c.if-not-is_configuring.false in
     let some : eqb (shape_of c.args.r).dims 0 ≡ false = ne_eqb _ _ c.if-s-eq0.false in
     let covered : uncovered (shape_of c.args.r) (shape_of c.args.r).coupling ≡ false = sym c.uncovered.ensures ∙ c.if-uncovered.false in
-    let bounded : low_or_high (shape_of c.args.r) ≡ false = sym c.Low-or-High.ensures ∙ c.if-low_or_high.false in
+    let bounded : low_or_high (shape_of c.args.r) ≡ false = sym c.low_or_high.ensures ∙ c.if-low_or_high.false in
     rw (configuring, some, covered, bounded, sym c.product_over.ensures ∙ c.if-product_over.false)

@@ -7,5 +7,5 @@ use Rattle.engine.proofs.lane.add_lane.Goals as goal
 pub returns : goal.returns
 returns c =
     let a = c.args in
-    rw (c.mask.ensures, c.wrapping_add_u64-sum.ensures, and_mask ((a.a + a.b) % 2 ^ 64) (8 * a.width))
+    rw (c.mask.ensures, c.wrapping_add_u64-sum.ensures.value, and_mask ((a.a + a.b) % 2 ^ 64) (8 * a.width))
     (cut (8 * a.width) (a.a + a.b) (omega arith))

@@ -10,4 +10,4 @@ returns c =
     let a = s.args in
     let r = c.wrapping_sub_u64-difference.result in
     rw (c.mask.ensures, and_mask r (8 * a.width))
-    (less (8 * a.width) r a.a a.b (omega arith) s.requires.1.0 s.requires.1.1 c.wrapping_sub_u64-difference.ensures)
+    (less (8 * a.width) r a.a a.b (omega arith) s.requires.1.0 s.requires.1.1 c.wrapping_sub_u64-difference.ensures.value)

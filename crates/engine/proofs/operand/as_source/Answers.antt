@@ -5,7 +5,7 @@ use Rattle.engine.specs.Registers.{is_open}
 use Rattle.engine.specs.Rows.{pattern_in}
 use Rattle.engine.specs.Operands.{Taken}
 use Rattle.engine.proofs.Carrying.{taken-plain}
-use Rattle.engine.proofs.Taking.{row-requires, row-taken, across-requires, across-taken}
+use Rattle.engine.proofs.Taking.{row-requires, row-taken, across-asked, across-taken}
 use Rattle.engine.proofs.operand.as_source.Goals as goal
 
 pub returns-then-not-is_open : goal.returns-then-not-is_open
@@ -38,10 +38,11 @@ pub across-requires : goal.across-requires
 across-requires c =
     let live : is_open c.args.r.state ≡ true = sym c.is_open.ensures ∙ c.if-not-is_open.false in
     let a = c in
-    across-requires _ a.args.index.now a.args.r a.args.most a.args.r.valid a.args.parts.now a.requires.most_bound a.requires.ready (live) _ c.again.ensures
+    let h = across-asked _ a.args.index.now a.args.r a.args.most a.args.r.valid a.args.parts.now a.requires.most_bound a.requires.ready (live) _ c.again.ensures in
+    record { ready = h.0; most_bound = h.1 }
 
 pub returns : goal.returns
 returns c =
     let live : is_open c.args.r.state ≡ true = sym c.is_open.ensures ∙ c.if-not-is_open.false in
     let a = c in
-    across-taken _ a.args.index.now a.args.r a.args.most a.args.r.valid a.args.parts.now a.requires.most_bound a.requires.ready (live) _ c.again.ensures _ _ _ c.across.ensures
+    across-taken _ a.args.index.now a.args.r a.args.most a.args.r.valid a.args.parts.now a.requires.most_bound a.requires.ready (live) _ c.again.ensures _ _ _ (c.across.ensures.live_value, c.across.ensures.parts_len)

@@ -72,7 +72,7 @@ returns-then-low_or_high c =
     let some-dims : eqb c.args.s.dims 0 ≡ false = ne_eqb c.args.s.dims 0 c.if-s-eq0.false in
     let in-place : some (misplaced_in c.args.s.dims) (modifiers_of c.args.s) ≡ false = sym c.some_misplaced.ensures ∙ c.if-some_misplaced.false in
     let placed : (eqb c.args.s.dims 0 || some (misplaced_in c.args.s.dims) (modifiers_of c.args.s)) ≡ false = rw (some-dims, in-place) in
-    let e = sym c.Low-or-High.ensures ∙ c.if-low_or_high.true in rw (few, in-range, placed, e)
+    let e = sym c.low_or_high.ensures ∙ c.if-low_or_high.true in rw (few, in-range, placed, e)
 
 pub product_over-requires : goal.product_over-requires
 product_over-requires c =
@@ -83,7 +83,7 @@ product_over-requires c =
     let eight : length c.args.s.modifiers ≡ 8 = search (rules, unmapped) in
     let ranged : Ranged c.args.s = let s = c in
     fits-ranged s.args.s (seven) (eight) (omega arith) (omega arith) (small) (near) (in-place) in
-    (ranged, sym c.Low-or-High.ensures ∙ c.if-low_or_high.false)
+    (ranged, sym c.low_or_high.ensures ∙ c.if-low_or_high.false)
 
 pub returns-then-product_over : goal.returns-then-product_over
 unfolding check_shape first_of
@@ -95,7 +95,7 @@ returns-then-product_over c =
     let some-dims : eqb c.args.s.dims 0 ≡ false = ne_eqb c.args.s.dims 0 c.if-s-eq0.false in
     let in-place : some (misplaced_in c.args.s.dims) (modifiers_of c.args.s) ≡ false = sym c.some_misplaced.ensures ∙ c.if-some_misplaced.false in
     let placed : (eqb c.args.s.dims 0 || some (misplaced_in c.args.s.dims) (modifiers_of c.args.s)) ≡ false = rw (some-dims, in-place) in
-    let bounded : low_or_high c.args.s ≡ false = sym c.Low-or-High.ensures ∙ c.if-low_or_high.false in
+    let bounded : low_or_high c.args.s ≡ false = sym c.low_or_high.ensures ∙ c.if-low_or_high.false in
     let e = sym c.product_over.ensures ∙ c.if-product_over.true in rw (few, in-range, placed, bounded, e)
 
 pub returns : goal.returns
@@ -108,5 +108,5 @@ returns c =
     let some-dims : eqb c.args.s.dims 0 ≡ false = ne_eqb c.args.s.dims 0 c.if-s-eq0.false in
     let in-place : some (misplaced_in c.args.s.dims) (modifiers_of c.args.s) ≡ false = sym c.some_misplaced.ensures ∙ c.if-some_misplaced.false in
     let placed : (eqb c.args.s.dims 0 || some (misplaced_in c.args.s.dims) (modifiers_of c.args.s)) ≡ false = rw (some-dims, in-place) in
-    let bounded : low_or_high c.args.s ≡ false = sym c.Low-or-High.ensures ∙ c.if-low_or_high.false in
+    let bounded : low_or_high c.args.s ≡ false = sym c.low_or_high.ensures ∙ c.if-low_or_high.false in
     let e = sym c.product_over.ensures ∙ c.if-product_over.false in rw (few, in-range, placed, bounded, e)

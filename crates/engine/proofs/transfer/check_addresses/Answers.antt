@@ -71,7 +71,7 @@ returns-then-not-row_within c =
     let lane : lane_without a.len a.width (addresses_in (get_or a.parts.now l.k [])) ≡ c.lane_outside-lane.result =
     sym (c.lane_outside-lane.ensures.0 ∙ ap (lane_without a.len a.width) (row)) in
     check-outside a.len a.width (joined_in (take a.m a.parts.now)) (l.passed + c.lane_outside-lane.result)
-    (part-outside a.len a.width a.parts.now l.k a.m (omega arith) there)
+    (part-outside a.len a.width a.parts.now l.k a.m (omega arith) there o)
     (part-lane a.len a.width a.parts.now l.k a.m (omega arith) there o ∙ omega (arith, lane, l.invariant.2))
 
 pub overflow_add-passed : goal.overflow_add-passed

@@ -41,14 +41,13 @@ read_part-requires c =
     let i = d in
     let s = i in
     let a = s.args in
-    let p = part in (
-      (s.requires.le_width.0, room),
-      (
-        (rw d.start_of-start.ensures p.start, rw d.step_of-step.ensures p.step),
-        ap (all_within (length a.memory.now) a.width) (row)
-            ∙ part-inside (length a.memory.now) a.width a.parts.now i.loop-k.k a.m (omega arith) (parts-there a.parts.now a.m s.requires.m_bound.1) s.requires.parts_value,
-      ),
-    )
+    let p = part in record {
+      le_width = (s.requires.le_width.0, room);
+      start_bound = (rw d.start_of-start.ensures p.start, rw d.step_of-step.ensures p.step);
+      n_value =
+          ap (all_within (length a.memory.now) a.width) (row)
+          ∙ part-inside (length a.memory.now) a.width a.parts.now i.loop-k.k a.m (omega arith) (parts-there a.parts.now a.m s.requires.m_bound.1) s.requires.parts_value;
+    }
 
 pub overflow_add-at : goal.overflow_add-at
 overflow_add-at c =

@@ -44,13 +44,11 @@ write_part-requires c =
     let l = i.loop-k in
     let p = part in
     let w : all_within (length a.memory.now) a.width (addresses_in (get_or a.parts.now l.k [])) ≡ true =
-    part-inside (length a.memory.now) a.width a.parts.now l.k a.m (omega arith) (parts-there a.parts.now a.m s.requires.m_bound.1) s.requires.parts_value in (
-      (s.requires.le_width.0, room),
-      (
-        (rw d.start_of-start.ensures p.start, rw d.step_of-step.ensures p.step),
-        ap (all_within (length l.memory) a.width) (row) ∙ ap (λ len. all_within len a.width (addresses_in (get_or a.parts.now l.k []))) l.invariant.2 ∙ w,
-      ),
-    )
+    part-inside (length a.memory.now) a.width a.parts.now l.k a.m (omega arith) (parts-there a.parts.now a.m s.requires.m_bound.1) s.requires.parts_value in record {
+      le_width = (s.requires.le_width.0, room);
+      start_bound = (rw d.start_of-start.ensures p.start, rw d.step_of-step.ensures p.step);
+      n_value = ap (all_within (length l.memory) a.width) (row) ∙ ap (λ len. all_within len a.width (addresses_in (get_or a.parts.now l.k []))) l.invariant.2 ∙ w;
+    }
 
 pub overflow_add-at : goal.overflow_add-at
 overflow_add-at c =

@@ -148,7 +148,7 @@ next_pass-requires-2 c =
     c.seek.ensures.searched.outside ∙ drop-set-lt (dimension) (from) 0 (get_or (from) 0 0 + 1) coupled.some in
     let p = coupled in
     let a = c in
-    let k = c.seek.ensures.searched in record { accepted = (a.pre.0, (p.some, p.within), k.long); by_index = (k.small, subst (Under (shape_at) (dimension)) (sym (outside)) (under-from (shape_at) (from) (under) (dimension) p.within)) }
+    let k = c.seek.ensures.searched in record { accepted = (a.requires.0, (p.some, p.within), k.long); by_index = (k.small, subst (Under (shape_at) (dimension)) (sym (outside)) (under-from (shape_at) (from) (under) (dimension) p.within)) }
 
 pub returns : goal.returns
 returns c =
