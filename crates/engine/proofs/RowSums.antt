@@ -74,7 +74,7 @@ module _ (t : Stream) (w : World) (es : List Entry) (i : ℕ) where
     chunks-steady =
         ext_get_or [] (chunks_read w es i) (map (λ (e : Entry). values_of t w.memory (elements_in t (e.taken i))) es)
         (chunks-length w es i ∙ sym (length-map es _))
-        (λ k h. read-steady k (omega (arith, chunks-length w es i)) ∙ sym (ListN.get_d_map (λ (e : Entry). values_of t w.memory (elements_in t (e.taken i))) es k no_entry))
+        (λ k h. read-steady k (omega (arith, chunks-length w es i)) ∙ sym (ListN.get_or-map (λ (e : Entry). values_of t w.memory (elements_in t (e.taken i))) es k no_entry))
 
     -- joined, they are the values of the elements moved
     values : (j k : ℕ) → join (chunks j k) ≡ values_of t w.memory (elements_in t (moved_of (between j k es) i))

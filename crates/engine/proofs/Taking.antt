@@ -2,7 +2,7 @@
 --
 --   part-fits, parts-set          a part far from overflowing; one more of them in an array
 --   taken-row, row-taken          a chunk of the present row
---   across-requires, across-taken   a chunk that leaves its row
+--   across-asked, across-taken   a chunk that leaves its row
 use Rattle.std.proofs.Common.{◌≡◌, ℕ, zero, suc, ◌+◌, ◌<◌, ◌≤◌, Bool, true, false, cond, eqb, ◌≢◌, List, [], length, get_or, set, ℤ, sym, refl, ap, ◌∙◌, subst, arith, length-set, get_or-set_other, get_or-set_same, ne_eqb}
 use Rattle.codec.specs.declared.amounts.Bytes.{Bytes}
 use Rattle.engine.specs.Chunks.{nothing_at}
@@ -93,9 +93,9 @@ module _ (p : Pattern) (row : List ℕ) (q : Running) (n plain : ℕ) (rows : Li
       (taken-row p row q (known.0 live) (known.1 live) live h.0 n plain h.1.0 most.0 h.1.1 rows most.1))
 
   -- `r` is the register once more
-  pub across-requires : (r : Running) → r ≡ q
+  pub across-asked : (r : Running) → r ≡ q
       → (Ready (view_of p [] row r) × (place_of row r ≡ place_at p r.width (set row 0 r.index))) × ((n ≤ 64) × (length rows ≡ 64))
-  across-requires r e =
+  across-asked r e =
       (subst (λ t. Ready (view_of p [] row t) × (place_of row t ≡ place_at p t.width (set row 0 t.index))) (sym e) (known.0 live, known.1 live), most)
 
   pub across-taken : (r : Running) → r ≡ q → (after : List ℕ) (xs : List (List ℤ)) (o : Ahead)

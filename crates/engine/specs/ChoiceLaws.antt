@@ -8,7 +8,7 @@
 --   foldl-before                     where it stands first, it is taken in place of each before it
 use Rattle.std.specs.Prelude.{◌≡◌, ℕ, zero, suc, ◌<◌, Bool, true, false, cond, ltb, List, [], ◌∷◌, ◌==◌, nat_lt, slice_index}
 use Rattle.std.proofs.Math.Path.{refl}
-use Rattle.std.proofs.Common.{sym, ◌∙◌, arith}
+use Rattle.std.proofs.Common.{sym, ◌∙◌, subst, arith}
 use mathlib.Core.List.{foldl}
 use borrow.Author.Tests.{ltb-true, ltb-false, lt-ltb, le-ltb, eq-eqb}
 use Rattle.codec.specs.declared.operation.Action.TheVariants.{Smaller, Larger}
@@ -132,4 +132,6 @@ module _ {f : ℕ → ℕ → ℕ} {t : ℕ → ℕ → Bool} (c : Chooses f t) 
   pub foldl-before : (x : ℕ) (xs : List ℕ) (j : ℕ) → j < first_at (foldl f x xs) (x ∷ xs) → t (slice_index (x ∷ xs) j) (foldl f x xs) ≡ true
   unfolding first_at
   foldl-before x [] = λ j h. absurd (omega (arith, (rw (eq-eqb x x refl) at h)))
-  foldl-before x (y ∷ ys) = rw (foldl-grouped x y ys) (before x (foldl f y ys) (y ∷ ys) (foldl-before y ys))
+  foldl-before x (y ∷ ys) =
+      subst (λ (z : ℕ). (j : ℕ) → j < first_at z (x ∷ y ∷ ys) → t (slice_index (x ∷ y ∷ ys) j) z ≡ true) (sym (foldl-grouped x y ys))
+      (before x (foldl f y ys) (y ∷ ys) (foldl-before y ys))

@@ -10,7 +10,8 @@ use Rattle.std.proofs.lemmas.List.{length-map}
 use Rattle.std.proofs.Math.Decide.{dec_lt}
 use Rattle.codec.specs.declared.refusal.Role.{Role}
 use Rattle.engine.specs.StopLaws.{held-front}
-use Rattle.engine.specs.Memory.{fetch, stored, contents, holding}
+use Rattle.std.proofs.Math.Seq.{sets}
+use Rattle.engine.specs.Memory.{fetch, stored, contents, holding, spot, little_endian}
 use Rattle.engine.specs.Checks.{Check, first_of}
 use Rattle.engine.specs.Calculate.{given, inside_check, read_from, written_to, memory_after}
 use Rattle.engine.specs.Registers.{is_open, shape_of, next_stops, next_chunk, moved_by}
@@ -78,7 +79,7 @@ unfolding stored
 stored-front p width memory [] [] = refl
 stored-front p width memory [] (x ∷ xs) = refl
 stored-front p width memory (v ∷ vs) [] = refl
-stored-front p width memory (v ∷ vs) (x ∷ xs) = stored-front p width _ vs xs
+stored-front p width memory (v ∷ vs) (x ∷ xs) = stored-front p width (sets memory (spot p width v) (little_endian width x)) vs xs
 
 -- the smaller of n and m is below n exactly if m is
 less-or-not : (n m : ℕ) → nat_lt (min n m) n ≡ nat_lt m n

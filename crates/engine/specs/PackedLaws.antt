@@ -95,9 +95,10 @@ unfolding joined lanes_from
 lanes-joined w [] rest h = refl
 lanes-joined w (x ∷ xs) rest h =
     let bytes = little_endian w x ++ (joined w xs ++ rest) in
-    let e : (little_endian w x ++ joined w xs) ++ rest ≡ bytes = append_assoc (little_endian w x) (joined w xs) rest in
+    let e : joined w (x ∷ xs) ++ rest ≡ bytes = append_assoc (little_endian w x) (joined w xs) rest in
     let z : 0 + w ≡ w + 0 = omega arith in
-    rw (e, z, value-little-small w x (joined w xs ++ rest) (h 0), lanes-further bytes w w 0 (length xs), drop_at (little_endian w x) (joined w xs ++ rest) w (length-little w x))
+    ap (λ l. lanes_from l w 0 (suc (length xs))) e
+    ∙ rw (z, value-little-small w x (joined w xs ++ rest) (h 0), lanes-further bytes w w 0 (length xs), drop_at (little_endian w x) (joined w xs ++ rest) w (length-little w x))
     (ap (λ l. x ∷ l) (lanes-joined w xs rest (λ k. h (suc k))))
 
 -- lanes put into a register's bytes are read back

@@ -1,0 +1,14 @@
+-- `address::plain_address` meets its contract: after d turns the sum is the address over the first d dimensions, within 2^20 + d x 2^52. With no
+use Rattle.std.proofs.Common.{◌≡◌, suc, ◌+◌, ◌-◌, ◌*◌, ◌^◌, ◌≤◌, get_or, drop, ◌+ℤ◌, nat_abs, sym, ap, ◌∙◌, arith, rules}
+use Rattle.engine.specs.Addresses.{address_up_to}
+use Rattle.engine.specs.Rows.{pattern_in}
+use Rattle.engine.proofs.RowReads.{base_read, offset_read, stride-read}
+use Rattle.engine.proofs.PlainSteps.{plain-term}
+use Rattle.engine.proofs.AddressSteps.{up-to-none, up-to-next}
+use Rattle.engine.proofs.address.plain_address.Given as goal
+
+abbrev pub invariant-loop-d : goal.invariant-loop-d
+invariant-loop-d l = (l.d ≤ l.n) × (l.n ≤ 7) × (l.sum.0 ≡ address_up_to (pattern_in l.shape l.places) l.width l.index l.d) × (nat_abs l.sum.0 ≤ 2 ^ 20 + l.d * 2 ^ 52)
+
+abbrev pub decreases-loop-d : goal.decreases-loop-d
+decreases-loop-d l = l.n - l.d

@@ -1,0 +1,7 @@
+-- `configure::modified` meets its contract.
+use Rattle.std.proofs.Common.{rules}
+use Rattle.engine.proofs.configure.modified.Goals as goal
+
+pub returns : goal.returns
+returns c =
+    rw c.owned.ensures

@@ -1,0 +1,7 @@
+-- `configure::opened` meets its contract.
+use Rattle.std.proofs.Common.{rules}
+use Rattle.engine.proofs.configure.opened.Goals as goal
+
+pub returns : goal.returns
+returns c =
+    rw (c.bytes.ensures, c.fresh-f.ensures)

@@ -1,0 +1,32 @@
+-- `fold::extreme_lane` meets its contract: the first lane, and the others taken with it.
+use Rattle.std.proofs.Common.{◌≡◌, ◌-◌, ◌*◌, ◌∷◌, length, sym, ap, ◌∙◌, zero-mul, arith, pow_pos, rules}
+use Rattle.engine.specs.Memory.{value_at, lanes_from}
+use Rattle.engine.specs.Lanes.{extreme}
+use Rattle.engine.proofs.FoldSteps.{lanes_next, whole_row}
+use Rattle.engine.proofs.fold.extreme_lane.Goals as goal
+
+pub returns-then-n-eq0 : goal.returns-then-n-eq0
+unfolding extreme lanes_from
+returns-then-n-eq0 c =
+    let a = c.args in
+    (sym (ap (λ n. extreme a.action (8 * a.width) (lanes_from a.lanes.now a.width 0 n)) c.if-n-eq0.true), pow_pos (8 * a.width))
+
+pub load-first-requires : goal.load-first-requires
+load-first-requires c =
+    let s = c in
+    let m : length s.args.lanes.now ≡ 64 = search rules in
+    (omega arith, s.requires.0.1)
+
+pub taken_through-requires : goal.taken_through-requires
+taken_through-requires c =
+    let s = c in record { le_width = (s.requires.0, (omega arith, s.requires.1)); start_bound = c.load-first.ensures.1 }
+
+pub returns : goal.returns
+unfolding extreme
+returns c =
+    let a = c.args in
+    let l = lanes_from a.lanes.now a.width (1 * a.width) (a.n - 1) in
+    let e : lanes_from a.lanes.now a.width 0 a.n ≡ c.load-first.result ∷ l =
+    sym (whole_row a.lanes.now a.width a.n) ∙ lanes_next a.lanes.now a.width 0 a.n (omega arith)
+    ∙ ap (λ x. x ∷ l) (ap (λ i. value_at a.lanes.now i a.width) (zero-mul a.width) ∙ sym c.load-first.ensures.0) in
+    (c.taken_through.ensures.0 ∙ sym (ap (extreme a.action (8 * a.width)) e), c.taken_through.ensures.1)

@@ -1,0 +1,14 @@
+-- `fold::first_at` meets its contract: the lanes passed over are not the one that is searched.
+use Rattle.std.proofs.Common.{◌≡◌, ◌+◌, ◌-◌, ◌*◌, ◌≤◌, length, sym, ap, ◌∙◌, arith, rules}
+use Rattle.engine.specs.Memory.{lanes_from}
+use Rattle.engine.specs.Lanes.{first_at}
+use Rattle.engine.proofs.LaneCounts.{few-lanes}
+use Rattle.engine.proofs.LaneSteps.{lane_room}
+use Rattle.engine.proofs.FoldSteps.{whole_row, first_more, first_found, first-nowhere}
+use Rattle.engine.proofs.fold.first_at.Given as goal
+
+abbrev pub invariant-loop-k : goal.invariant-loop-k
+invariant-loop-k l = (l.k ≤ l.n) × (l.n ≤ 64) × (first_at l.x (lanes_from l.lanes l.width 0 l.n) ≡ l.k + first_at l.x (lanes_from l.lanes l.width (l.k * l.width) (l.n - l.k)))
+
+abbrev pub decreases-loop-k : goal.decreases-loop-k
+decreases-loop-k l = l.n - l.k

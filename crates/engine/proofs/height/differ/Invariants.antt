@@ -1,0 +1,11 @@
+-- `height::differ` meets its contract: the places above d are equal.
+use Rattle.std.proofs.Common.{◌≡◌, ℕ, zero, suc, ◌-◌, ◌<◌, ◌≤◌, List, [], ◌∷◌, length, get_or, drop, sym, ◌∙◌, ap₂, sub-one, arith, drop_of_length-le, drop-cons, rules}
+use Rattle.engine.specs.FlagLaws.{differ-from, differ-at}
+use Rattle.engine.specs.Chunks.{differ}
+use Rattle.engine.proofs.height.differ.Given as goal
+
+abbrev pub invariant-loop-d : goal.invariant-loop-d
+invariant-loop-d l = (l.d ≤ 7) × (length l.u ≡ 7) × (length l.v ≡ 7) × (drop l.d l.u ≡ drop l.d l.v)
+
+abbrev pub decreases-loop-d : goal.decreases-loop-d
+decreases-loop-d l = l.d

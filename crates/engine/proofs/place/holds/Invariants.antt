@@ -1,0 +1,19 @@
+-- `place::holds` meets its contract: whether the stop is an element depends on the dimensions that are not looked at yet.
+use Rattle.std.proofs.Common.{◌≡◌, ℕ, suc, ◌-◌, ◌<◌, ◌≤◌, Bool, true, false, ◌&&◌, ltb, List, length, get_or, take, drop, sym, refl, ap, ◌∙◌, add-one, arith, drop_of_length-le, length-take-le, drop-cons, get_or-take, rules, le-ltb, lt-ltb}
+use Rattle.engine.specs.Loops.{size_at}
+use Rattle.engine.specs.Chunks.{is_element}
+use Rattle.engine.specs.Registers.{index_of}
+use Rattle.engine.specs.Rows.{shape_in}
+use Rattle.engine.specs.IndexLaws.{index-length, size-index}
+use Rattle.engine.specs.declared.stream.Shape.{Shape}
+use Rattle.engine.proofs.place.holds.Given as goal
+
+-- what is left to look at from dimension d on
+abbrev pub left : Shape → List ℕ → ℕ → Bool
+left s v d = is_element (size_at s) d (drop d (take s.dims v))
+
+abbrev pub invariant-loop-d : goal.invariant-loop-d
+invariant-loop-d l = (left (shape_in l.shape) l.index l.d ≡ left (shape_in l.shape) l.index 0) × (l.d ≤ l.n) × (l.n ≡ (shape_in l.shape).dims)
+
+abbrev pub decreases-loop-d : goal.decreases-loop-d
+decreases-loop-d l = l.n - l.d

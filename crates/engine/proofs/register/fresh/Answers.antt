@@ -1,0 +1,7 @@
+-- `register::fresh` meets its contract.
+use Rattle.std.proofs.Common.{rules}
+use Rattle.engine.proofs.register.fresh.Goals as goal
+
+pub returns : goal.returns
+returns c =
+    rw c.no_pattern.ensures

@@ -1,0 +1,7 @@
+-- `register::fresh_machine` meets its contract.
+use Rattle.std.proofs.Common.{rules}
+use Rattle.engine.proofs.register.fresh_machine.Goals as goal
+
+pub returns : goal.returns
+returns c =
+    rw c.fresh.ensures

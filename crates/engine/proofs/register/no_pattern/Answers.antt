@@ -1,0 +1,7 @@
+-- `register::no_pattern` meets its contract.
+use Rattle.std.proofs.Common.{rules}
+use Rattle.engine.proofs.register.no_pattern.Goals as goal
+
+pub returns : goal.returns
+returns c =
+    rw c.no_shape.ensures

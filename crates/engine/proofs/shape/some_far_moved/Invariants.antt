@@ -1,0 +1,13 @@
+-- `shape::some_far_moved` meets its contract: no modifier passed has too large a displacement.
+use Rattle.std.proofs.Common.{◌≡◌, ℕ, ◌-◌, ◌<◌, ◌≤◌, false, length, get_or, sym, arith, rules, below_more, le-ltb, lt-ltb}
+use Rattle.engine.specs.Registers.{no_modifier}
+use Rattle.engine.specs.ShapeCheck.{far_moved}
+use Rattle.engine.specs.ShapeLaws.{first-at, first-none}
+use Rattle.engine.proofs.Lengths.{unmapped}
+use Rattle.engine.proofs.shape.some_far_moved.Given as goal
+
+abbrev pub invariant-loop-k : goal.invariant-loop-k
+invariant-loop-k l = (l.k ≤ l.n) × ((j : ℕ) → j < l.k → far_moved (get_or l.modifiers j no_modifier) ≡ false)
+
+abbrev pub decreases-loop-k : goal.decreases-loop-k
+decreases-loop-k l = l.n - l.k

@@ -1,0 +1,14 @@
+-- `transfer::read_parts` meets its contract: after k turns the lanes are those at the addresses of the first k parts.
+use Rattle.std.proofs.Common.{◌≡◌, ◌+◌, ◌-◌, ◌*◌, ◌<◌, ◌≤◌, [], length, get_or, take, sym, ap, ◌∙◌, arith}
+use Rattle.engine.specs.Memory.{packed}
+use Rattle.engine.specs.Stretches.{progression, addresses_in, joined_in, Part, all_within, fetched_at}
+use Rattle.engine.proofs.LaneCounts.{few-lanes}
+use Rattle.engine.proofs.StretchSteps.{length-progression}
+use Rattle.engine.proofs.PartSteps.{part-there, parts-there, part-is, lanes-room, part-inside, parts-count, parts-read, none-packed, no-parts}
+use Rattle.engine.proofs.transfer.read_parts.Given as goal
+
+abbrev pub invariant-loop-k : goal.invariant-loop-k
+invariant-loop-k l = (l.k ≤ l.m) × (l.at ≡ length (joined_in (take l.k l.parts))) × (l.lanes ≡ packed l.width (fetched_at l.memory l.width (joined_in (take l.k l.parts))))
+
+abbrev pub decreases-loop-k : goal.decreases-loop-k
+decreases-loop-k l = l.m - l.k

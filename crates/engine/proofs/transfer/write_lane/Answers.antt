@@ -1,0 +1,25 @@
+-- `transfer::write_lane` meets its contract.
+use Rattle.std.proofs.Common.{◌≡◌, ◌+◌, ◌≤◌, true, length, ap, ◌∙◌, arith, rules}
+use lib.Signed.{non_neg}
+use Rattle.engine.specs.Loops.{natural}
+use lib.Seq.{sets}
+use Rattle.engine.specs.Memory.{little_endian}
+use Rattle.engine.proofs.PlaceSteps.{inside-room}
+use Rattle.engine.proofs.transfer.write_lane.Goals as goal
+
+pub place-requires : goal.place-requires
+place-requires c =
+    let there : (non_neg c.args.a.0 ≡ true) × (natural c.args.a.0 + c.args.width ≤ length c.args.memory.now) = inside-room (length c.args.memory.now) c.args.width c.args.a.0 c.requires.1.1 in
+    (there).0
+
+pub store-requires : goal.store-requires
+store-requires c =
+    let there : (non_neg c.args.a.0 ≡ true) × (natural c.args.a.0 + c.args.width ≤ length c.args.memory.now) = inside-room (length c.args.memory.now) c.args.width c.args.a.0 c.requires.1.1 in
+    omega (arith, c.place.ensures.0, (there).1)
+
+pub returns : goal.returns
+returns c =
+    let a = c.args in
+    c.store.ensures
+    ∙ ap (λ i. sets a.memory.now i (little_endian a.width c.load-x.result)) c.place.ensures.0
+    ∙ ap (λ x. sets a.memory.now (natural a.a.0) (little_endian a.width x)) c.load-x.ensures.0

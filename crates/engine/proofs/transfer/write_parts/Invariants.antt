@@ -1,0 +1,14 @@
+-- `transfer::write_parts` meets its contract: after k turns the lanes of the first k parts are written.
+use Rattle.std.proofs.Common.{◌≡◌, ◌+◌, ◌-◌, ◌*◌, ◌<◌, ◌≤◌, true, [], length, get_or, take, sym, refl, ap, ◌∙◌, arith, rules}
+use Rattle.engine.specs.Memory.{lanes_from}
+use Rattle.engine.specs.Stretches.{progression, addresses_in, joined_in, Part, all_within, stored_at}
+use Rattle.engine.proofs.LaneCounts.{few-lanes}
+use Rattle.engine.proofs.StretchSteps.{length-progression}
+use Rattle.engine.proofs.PartSteps.{part-there, parts-there, part-is, lanes-room, part-inside, parts-count, parts-written, length-stored, none-stored, no-parts}
+use Rattle.engine.proofs.transfer.write_parts.Given as goal
+
+abbrev pub invariant-loop-k : goal.invariant-loop-k
+invariant-loop-k l = (l.k ≤ l.m) × (l.at ≡ length (joined_in (take l.k l.parts))) × (length l.memory ≡ length l.initial.memory) × (l.memory ≡ stored_at l.initial.memory l.width (joined_in (take l.k l.parts)) (lanes_from l.lanes l.width 0 l.at))
+
+abbrev pub decreases-loop-k : goal.decreases-loop-k
+decreases-loop-k l = l.m - l.k
