@@ -123,18 +123,14 @@ check_calculation-o-requires c =
     let m = c in
     let l = m.loop-k in
     let a = m in
-    let f = fits in (
-      ((a.requires.le_vl.0.0, a.requires.le_vl.0.1), (named.first, (named.second, named.destination))),
-      (
-        (l.invariant.1.firsts, (l.invariant.1.seconds, l.invariant.1.thirds)),
-        (
-          (f calculation.first named.first, (f calculation.second named.second, f calculation.destination named.destination)),
-          λ t.
-              let e = sym (eqb-true calculation.first calculation.second t) in
-              (ap (λ i. get_or l.all i no_running) e, (e, ap (λ i. get_or l.indices i []) e)),
-        ),
-      ),
-    )
+    let f = fits in record {
+      le_vl = ((a.requires.le_vl.0.0, a.requires.le_vl.0.1), (named.first, (named.second, named.destination)));
+      xs_len = (l.invariant.1.firsts, (l.invariant.1.seconds, l.invariant.1.thirds));
+      fit = (f calculation.first named.first, (f calculation.second named.second, f calculation.destination named.destination));
+      b_value = λ t.
+          let e = sym (eqb-true calculation.first calculation.second t) in
+          (ap (λ i. get_or l.all i no_running) e, (e, ap (λ i. get_or l.indices i []) e));
+    }
 
 pub rejoined-requires : goal.rejoined-requires
 rejoined-requires c =
@@ -223,19 +219,17 @@ carry_out-e-requires c =
     let l = m.loop-k in
     let k = c.check_calculation-o in
     let g = checked in
-    let e = c.in_default.is in (
-      g.within e,
-      (
+    let e = c.in_default.is in record {
+      within = g.within e;
+      count_bound = (
+        moved-room _ _ _ _ (fits calculation.first named.first) _ _ _ _ _ (g.first e),
         (
-          moved-room _ _ _ _ (fits calculation.first named.first) _ _ _ _ _ (g.first e),
-          (
-            moved-room _ _ _ _ (fits calculation.second named.second) _ _ _ _ _ (g.second e),
-            moved-room _ _ _ _ (fits calculation.destination named.destination) _ _ _ _ _ (g.destination e),
-          ),
+          moved-room _ _ _ _ (fits calculation.second named.second) _ _ _ _ _ (g.second e),
+          moved-room _ _ _ _ (fits calculation.destination named.destination) _ _ _ _ _ (g.destination e),
         ),
-        λ t. ((g.again e t).0, ap (λ i. get_or l.lanes i []) (sym (eqb-true calculation.first calculation.second t))),
-      ),
-    )
+      );
+      y_value = λ t. ((g.again e t).0, ap (λ i. get_or l.lanes i []) (sym (eqb-true calculation.first calculation.second t)));
+    }
 
 pub offset_bounds-all-i-in-loop-k : goal.offset_bounds-all-i-in-loop-k
 offset_bounds-all-i-in-loop-k c =

@@ -72,7 +72,7 @@ returns-then-not-row_within c =
     sym (c.lane_outside-lane.ensures.0 ∙ ap (lane_without a.len a.width) (row)) in
     check-outside a.len a.width (joined_in (take a.m a.parts.now)) (l.passed + c.lane_outside-lane.result)
     (part-outside a.len a.width a.parts.now l.k a.m (omega arith) there o)
-    (part-lane a.len a.width a.parts.now l.k a.m (omega arith) there o ∙ omega (arith, lane, l.invariant.2))
+    (part-lane a.len a.width a.parts.now l.k a.m (omega arith) there l.invariant.1 o ∙ omega (arith, lane, l.invariant.2))
 
 pub overflow_add-passed : goal.overflow_add-passed
 overflow_add-passed c =
