@@ -295,7 +295,7 @@ returns-then-ends_chunk c =
     part-last (r) l.invariant.1 _ l.count l.index l.i l.address l.size l.step l.height _ l.invariant.0 (row) (n) (some) (in-most) (in_size) (along) found place h on in
     let gone-by : (n : ℕ) → gone_by c.args.r n ≡ n = λ n. let q = c.args.r in
     gone-told (pattern_in c.args.shape.now c.args.places.now) c.args.index.now q c.requires.ready.0 c.requires.ready.1 n
-    ∙ past-lanes (view_of (pattern_in c.args.shape.now c.args.places.now) [] c.args.index.now q) n in
+    ∙ past-lanes (view_of (pattern_in c.args.shape.now c.args.places.now) [] c.args.index.now q) n c.requires.most_bound.2 in
     let stepped : let p = c in Onward r.pattern r.width (suc (r.moved + (p.loop-count.count + (p.part_size-n.result - 1)))) c.leave_row-t.result.found (spotted c.leave_row-t.new.index c.leave_row-t.result.spot) c.leave_row-t.result.height = let p = c in c.leave_row-t.ensures.by_index _ (below_last) (index-last) in
     let v = c in
     let p = v in
@@ -400,10 +400,9 @@ loop-count-preserved c =
 
 pub returns : goal.returns
 returns c =
-    let n : ℕ = c.part_size-n.result in
     let gone-by : (n : ℕ) → gone_by c.args.r n ≡ n = λ n. let q = c.args.r in
     gone-told (pattern_in c.args.shape.now c.args.places.now) c.args.index.now q c.requires.ready.0 c.requires.ready.1 n
-    ∙ past-lanes (view_of (pattern_in c.args.shape.now c.args.places.now) [] c.args.index.now q) n in
+    ∙ past-lanes (view_of (pattern_in c.args.shape.now c.args.places.now) [] c.args.index.now q) n c.requires.most_bound.2 in
     let l = c.loop-count in
     let a = c.args in
     let v = in_row l.index l.i l.address l.size l.step in
