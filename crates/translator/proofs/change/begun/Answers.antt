@@ -1,0 +1,7 @@
+-- `change::begun` meets its contract.
+use borrow.Author.Rules.{rules}
+use Rattle.translator.proofs.change.begun.Goals as goal
+
+pub returns : goal.returns
+returns c =
+    rw c.no_access-none.ensures

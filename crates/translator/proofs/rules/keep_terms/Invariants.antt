@@ -1,0 +1,14 @@
+-- `rules::keep_terms` meets its contract: what is left to keep, kept with what is kept, gives all.
+use native.Mathlib.Omega.{arith}
+use Prim.Native.Nat.{◌-◌}
+use mathlib.Core.Path.{◌≡◌, sym, ◌∙◌}
+use Rattle.translator.specs.NestSheets.{modifiers_at}
+use Rattle.translator.specs.Keeping.{keep_all}
+use Rattle.translator.specs.KeepingLaws.{at_next, at-end}
+use Rattle.translator.proofs.rules.keep_terms.Given as goal
+
+abbrev pub invariant-loop-t : goal.invariant-loop-t
+invariant-loop-t l = keep_all (modifiers_at l.m l.o l.t (l.o - l.t)) l.kept ≡ keep_all (modifiers_at l.m l.o 0 l.o) l.initial.kept
+
+abbrev pub decreases-loop-t : goal.decreases-loop-t
+decreases-loop-t l = l.o - l.t

@@ -1,0 +1,7 @@
+-- `rules::modifier_of` meets its contract.
+use borrow.Author.Rules.{rules}
+use Rattle.translator.proofs.rules.modifier_of.Goals as goal
+
+pub returns : goal.returns
+returns c =
+    rw (c.type_size.ensures, c.behaviour_of-behaviour.ensures, c.term_of-z.ensures)

@@ -1,0 +1,49 @@
+-- `run::run_nest` meets its contract: 15 first, then a refusal of the nest, then the run of its sheet.
+use native.Mathlib.Omega.{arith}
+use borrow.Author.Rules.{rules}
+use Prim.Native.Nat.{ℕ}
+use mathlib.Core.Path.{◌≡◌, refl, sym, ◌∙◌, ap}
+use mathlib.Core.Bool.{true}
+use mathlib.Core.List.{List}
+use lib.ListN.{length}
+use borrow.Author.Tests.{not-true, not-false}
+use Rattle.engine.specs.Sheets.{allowed}
+use Rattle.engine.specs.Run.{Progress}
+use Rattle.translator.specs.Reading.{nest, nest_at, nested_of}
+use Rattle.translator.specs.Translation.{Outcome, outcome_of, run_nest}
+use Rattle.translator.specs.Promise3.{Delivered}
+use Rattle.translator.specs.declared.nest.NestAnswer.{NestAnswer}
+use Rattle.translator.specs.declared.nest.Stage.TheVariants as stage
+use Rattle.translator.proofs.Nesting.{nesting}
+use Rattle.translator.proofs.Delivered.{delivered}
+use Rattle.translator.proofs.run.run_nest.Goals as goal
+
+-- the equation, and what demand 3 says by it
+both : {s : List ℕ} {vl : ℕ} {memory : List ℕ} {r : NestAnswer} {after : List ℕ}
+    → outcome_of r after ≡ run_nest vl s memory → (outcome_of r after ≡ run_nest vl s memory) × Delivered s vl memory r after
+both e = (e, delivered _ _ _ _ _ e)
+
+pub returns-then-not-is_allowed : goal.returns-then-not-is_allowed
+unfolding run_nest
+returns-then-not-is_allowed c =
+    both (rw (c.unrun.ensures, sym c.is_allowed.ensures ∙ c.if-not-is_allowed.true))
+
+pub run_sheet-requires : goal.run_sheet-requires
+run_sheet-requires c =
+    let read : nest_at c.args.s.now ≡ nest c.read_nest-read.result.nest = sym c.read_nest-read.ensures ∙ ap (λ v. nested_of v c.read_nest-read.result.nest) c.in-Done.is in
+    (((nesting _ (λ i. (c.shared_slice_known-1.given i).fits)).is-nest _).0 (read)).0
+
+pub returns-in-Done : goal.returns-in-Done
+unfolding run_nest
+returns-in-Done c =
+    let allowed-here : allowed c.args.vl (length c.args.memory.now) ≡ true = sym c.is_allowed.ensures ∙ c.if-not-is_allowed.false in
+    let read : nest_at c.args.s.now ≡ nest c.read_nest-read.result.nest = sym c.read_nest-read.ensures ∙ ap (λ v. nested_of v c.read_nest-read.result.nest) c.in-Done.is in
+    let p : Progress → Outcome = λ x. record { stage = stage.Sheet; progress = x } in
+    both (rw (allowed-here, read) (ap p c.run_sheet.ensures))
+
+pub returns-in-Refused : goal.returns-in-Refused
+unfolding run_nest
+returns-in-Refused c =
+    let allowed-here : allowed c.args.vl (length c.args.memory.now) ≡ true = sym c.is_allowed.ensures ∙ c.if-not-is_allowed.false in
+    let e = sym c.read_nest-read.ensures ∙ ap (λ v. nested_of v c.read_nest-read.result.nest) c.in-Refused.is in
+    both (rw (c.unrun-in-Refused.ensures, allowed-here, e))

@@ -1,0 +1,7 @@
+-- `run::unrun` meets its contract.
+use borrow.Author.Rules.{rules}
+use Rattle.translator.proofs.run.unrun.Goals as goal
+
+pub returns : goal.returns
+returns c =
+    rw c.fresh_machine.ensures
