@@ -197,4 +197,4 @@ returns c =
     (sym c.number-4.ensures ∙ c.in-Value-number-3.is)
     (in-range 1 _ 7 c.if-code-lt1.false c.if-code-gt7.false) in
     let e = c in
-    (rw (c.begun.ensures, c.coded-a.ensures, c.coded-w.ensures) (sym (four)), rw c.begun.ensures ((e)).if3.false)
+    (rw (c.begun.ensures, c.coded-a.ensures, c.coded-w.ensures) (sym (four)), rw c.begun.ensures c.if-loops-gt7.false)

@@ -54,5 +54,5 @@ returns c =
     let e = c in
     let a = e.read_access-f.result in
     let b = e.read_access-g.result in
-    let m = with_access second b.access (with_access first a.access ((e)).before.before.read-loops.result.nest) in
+    let m = with_access second b.access (with_access first a.access c.read_loops-p.result.nest) in
     rw c.with_accesses.ensures (side-read _ destination _ _ m c.read_access-d.result c.read_access-d.ensures ∙ sym (three))

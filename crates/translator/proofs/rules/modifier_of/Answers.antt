@@ -4,4 +4,4 @@ use Rattle.translator.proofs.rules.modifier_of.Goals as goal
 
 pub returns : goal.returns
 returns c =
-    rw (c.type_size.ensures, c.behaviour_of-behaviour.ensures, c.term_of-z.ensures)
+    rw (c.size_of-displacement.ensures, c.behaviour_of-behaviour.ensures, c.term_of-z.ensures)

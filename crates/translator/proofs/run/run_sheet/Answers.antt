@@ -11,7 +11,7 @@ pub slice_bounds-bytes-end : goal.slice_bounds-bytes-end
 slice_bounds-bytes-end c =
     let holds : AtFront c.sheet_page-page.result (sheet_of c.args.m) = sheet-page c.args.m c.sheet_page-page.result c.requires c.sheet_page-page.ensures in
     let n : length c.sheet_page-page.result.bytes ≡ 1024 = search rules in
-    omega (arith, holds.behind, holds.ranges)
+    omega (arith, holds.behind, holds.fits)
 
 pub slice_bounds-run-end : goal.slice_bounds-run-end
 slice_bounds-run-end c =
