@@ -1,5 +1,5 @@
 -- `ahead::part_by_part` meets its contract: after some parts what was looked at is the front of the chunk, and the walk stands behind it.
-use Rattle.std.proofs.Common.{◌≡◌, ℕ, suc, ◌+◌, ◌-◌, ◌<◌, ◌≤◌, min, Bool, true, false, not, ltb, List, [], ◌∷◌, ◌++◌, length, get_or, take, drop, set, ℤ, pos, ◌+ℤ◌, sym, refl, ap, ◌∙◌, subst, arith, length-set, get_or-set_same, w64, to_z, of_z, rules, ltb-true}
+use Rattle.std.proofs.Common.{◌≡◌, ℕ, suc, ◌+◌, ◌-◌, ◌<◌, ◌≤◌, min, Bool, true, false, not, ltb, List, [], ◌∷◌, ◌++◌, length, get_or, take, drop, set, ℤ, pos, ◌+ℤ◌, sym, refl, ap, ◌∙◌, subst, arith, length-set, get_or-set_same, w64, to_z, of_z, ltb-true}
 use borrow.Author.Tests.{not-true}
 use Rattle.codec.proofs.Integers.{back}
 use Rattle.codec.specs.TestLaws.{both}
@@ -17,7 +17,7 @@ use Rattle.engine.specs.declared.register.State.TheVariants.{Open}
 use Rattle.engine.specs.declared.register.Register.{Register}
 use Rattle.engine.specs.declared.ahead.Ahead.{Ahead}
 use Rattle.engine.specs.Rows.{shape_in, pattern_in}
-use Rattle.engine.specs.Places.{Place, Ready, Onward, in_row, place_at, ends_at}
+use Rattle.engine.specs.Places.{Place, Onward, in_row, place_at, ends_at}
 use Rattle.engine.specs.Stretches.{progression, joined_in, Parts, addresses_of}
 use Rattle.engine.specs.Runnings.{view_of, spotted, Near, gone_by, behind, part_of}
 use Rattle.engine.proofs.RowSteps.{place-fits, in-row-same}

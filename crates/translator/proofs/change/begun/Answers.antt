@@ -1,5 +1,4 @@
 -- `change::begun` meets its contract.
-use borrow.Author.Rules.{rules}
 use Rattle.translator.proofs.change.begun.Goals as goal
 
 pub returns : goal.returns

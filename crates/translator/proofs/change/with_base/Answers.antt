@@ -1,6 +1,5 @@
 -- `change::with_base` meets its contract: a base fits 64 bits.
 use native.Mathlib.Omega.{arith}
-use borrow.Author.Rules.{rules}
 use Rattle.codec.proofs.Integers.{cast}
 use Rattle.translator.proofs.change.with_base.Goals as goal
 

@@ -1,5 +1,4 @@
 -- `read::no_head` meets its contract.
-use borrow.Author.Rules.{rules}
 use mathlib.Core.Path.{refl}
 use Rattle.translator.proofs.read.no_head.Goals as goal
 

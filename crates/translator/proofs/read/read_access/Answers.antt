@@ -1,6 +1,5 @@
 -- `read::read_access` meets its contract: the base in range, then the strides.
 use native.Mathlib.Omega.{arith}
-use borrow.Author.Rules.{rules}
 use mathlib.Core.Path.{sym, ◌∙◌}
 use Rattle.translator.specs.PartLaws.{access-none, access-over, access-next, in-range, over, stop-side}
 use Rattle.translator.proofs.read.read_access.Goals as goal

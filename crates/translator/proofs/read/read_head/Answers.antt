@@ -3,7 +3,6 @@ use native.Mathlib.Omega.{arith}
 use Prim.Native.Nat.{ℕ}
 use mathlib.Core.Path.{◌≡◌, sym, ◌∙◌}
 use mathlib.Core.List.{List, [], ◌∷◌}
-use borrow.Author.Rules.{rules}
 use Rattle.translator.specs.Fields.{width, loops, coupled, operation, head_fields, no_nest, put}
 use Rattle.translator.specs.Reading.{Read, read_from}
 use Rattle.translator.specs.PartLaws.{read_none, read-over, read_next, in-range, under, over, stop}

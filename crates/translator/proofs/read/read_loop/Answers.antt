@@ -1,6 +1,5 @@
 -- `read::read_loop` meets its contract: the count in range, then the terms.
 use native.Mathlib.Omega.{arith}
-use borrow.Author.Rules.{rules}
 use mathlib.Core.Path.{sym, ◌∙◌}
 use Rattle.translator.specs.PartLaws.{read_none, read-over, read_next, in-range, over, stop}
 use Rattle.translator.proofs.read.read_loop.Goals as goal

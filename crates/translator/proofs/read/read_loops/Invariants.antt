@@ -1,13 +1,10 @@
 -- `read::read_loops` meets its contract: the loops that are left to read, from where the loop stands, give what all of them give.
-use native.Mathlib.Omega.{arith}
-use borrow.Author.Rules.{rules}
 use Prim.Native.Nat.{◌-◌}
-use mathlib.Core.Path.{◌≡◌, refl, sym, ◌∙◌}
+use mathlib.Core.Path.{◌≡◌}
 use mathlib.Core.Bool.{false}
 use Rattle.translator.specs.Fields.{loop_fields}
 use Rattle.translator.specs.Reading.{read_from}
 use Rattle.translator.specs.Parts.{is_refused}
-use Rattle.translator.specs.PartLaws.{is_read, then-stays, then-goes, loop-fields, loops-end}
 use Rattle.translator.proofs.read.read_loops.Given as goal
 
 abbrev pub invariant-loop-t : goal.invariant-loop-t

@@ -1,5 +1,4 @@
 -- `read::read_nest` meets its contract: a refusal of the first four numbers, of those behind them, of bytes after them, or of a rule; else the nest.
-use borrow.Author.Rules.{rules}
 use Prim.Native.Nat.{ℕ, ◌≤◌}
 use mathlib.Core.Path.{◌≡◌, sym, ◌∙◌}
 use mathlib.Core.Bool.{false}

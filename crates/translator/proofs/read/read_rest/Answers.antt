@@ -1,5 +1,4 @@
 -- `read::read_rest` meets its contract: the loops, then each access, lead on to the next, or stop at a refusal.
-use borrow.Author.Rules.{rules}
 use mathlib.Core.Path.{◌≡◌, sym, ◌∙◌}
 use mathlib.Core.List.{◌++◌}
 use Rattle.translator.specs.Fields.{first, second, destination, access_fields, rest_fields, with_access}

@@ -2,10 +2,7 @@
 use native.Mathlib.Omega.{arith}
 use Prim.Native.Nat.{◌-◌}
 use mathlib.Core.Path.{◌≡◌, sym, ◌∙◌}
-use borrow.Author.Tests.{not-true, not-false}
-use borrow.Author.Rules.{rules}
 use Rattle.codec.proofs.Fields.{signed_back, signed-reach}
-use Rattle.translator.specs.Parts.{strides_at}
 use Rattle.translator.specs.PartLaws.{stop-side, stride-none, stride-over, stride-next, strides-end}
 use Rattle.translator.proofs.read.read_strides.Goals as goal
 

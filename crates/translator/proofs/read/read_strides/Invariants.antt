@@ -1,12 +1,7 @@
 -- `read::read_strides` meets its contract: the strides that are left to read, from where the loop stands, give what all of them give.
-use native.Mathlib.Omega.{arith}
 use Prim.Native.Nat.{◌-◌}
-use mathlib.Core.Path.{◌≡◌, sym, ◌∙◌}
-use borrow.Author.Tests.{not-true, not-false}
-use borrow.Author.Rules.{rules}
-use Rattle.codec.proofs.Fields.{signed_back, signed-reach}
+use mathlib.Core.Path.{◌≡◌}
 use Rattle.translator.specs.Parts.{strides_at}
-use Rattle.translator.specs.PartLaws.{stop-side, stride-none, stride-over, stride-next, strides-end}
 use Rattle.translator.proofs.read.read_strides.Given as goal
 
 abbrev pub invariant-loop-d : goal.invariant-loop-d

@@ -1,12 +1,7 @@
 -- `read::read_terms` meets its contract: the terms that are left to read, from where the loop stands, give what all of them give.
 use native.Mathlib.Omega.{arith}
-use Prim.Native.Nat.{◌-◌}
-use mathlib.Core.Path.{◌≡◌, refl, sym, ◌∙◌}
-use borrow.Author.Tests.{not-true, not-false}
-use borrow.Author.Rules.{rules}
+use mathlib.Core.Path.{sym, ◌∙◌}
 use Rattle.codec.proofs.Fields.{signed_back, signed-reach}
-use Rattle.translator.specs.Fields.{term_fields}
-use Rattle.translator.specs.Reading.{read_from}
 use Rattle.translator.specs.PartLaws.{stop, term-none, term-over, term-next, terms-end}
 use Rattle.translator.proofs.read.read_terms.Goals as goal
 

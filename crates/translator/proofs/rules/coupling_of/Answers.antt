@@ -1,5 +1,4 @@
 -- `rules::coupling_of` meets its contract.
-use borrow.Author.Rules.{rules}
 use Prim.Native.Nat.{ℕ, zero, suc}
 use mathlib.Core.Path.{◌≡◌, refl}
 use Rattle.codec.specs.declared.header.Coupling.TheVariants.{Coupled}

@@ -1,5 +1,4 @@
 -- `rules::keep` meets its contract.
-use borrow.Author.Rules.{rules}
 use borrow.Author.Tests.{lt-ltb, le-ltb}
 use Rattle.translator.proofs.rules.keep.Goals as goal
 

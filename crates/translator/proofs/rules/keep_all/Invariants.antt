@@ -1,11 +1,8 @@
 -- `rules::keep_all` meets its contract: what is left to keep, kept with what is kept, gives all.
-use native.Mathlib.Omega.{arith}
-use borrow.Author.Rules.{rules}
 use Prim.Native.Nat.{◌-◌}
-use mathlib.Core.Path.{◌≡◌, sym, ◌∙◌}
+use mathlib.Core.Path.{◌≡◌}
 use Rattle.translator.specs.NestSheets.{modifiers_from}
 use Rattle.translator.specs.Keeping.{none_kept, keep_all}
-use Rattle.translator.specs.KeepingLaws.{from_next, from_end}
 use Rattle.translator.proofs.rules.keep_all.Given as goal
 
 abbrev pub invariant-loop-o : goal.invariant-loop-o

@@ -1,5 +1,4 @@
 -- `rules::keep_term` meets its contract.
-use borrow.Author.Rules.{rules}
 use borrow.Author.Tests.{eq-eqb, ne_eqb}
 use Rattle.translator.proofs.rules.keep_term.Goals as goal
 

@@ -2,8 +2,6 @@
 use native.Mathlib.Omega.{arith}
 use Prim.Native.Nat.{◌-◌}
 use mathlib.Core.Path.{◌≡◌, sym, ◌∙◌}
-use Rattle.translator.specs.NestSheets.{modifiers_at}
-use Rattle.translator.specs.Keeping.{keep_all}
 use Rattle.translator.specs.KeepingLaws.{at_next, at-end}
 use Rattle.translator.proofs.rules.keep_terms.Goals as goal
 

@@ -1,10 +1,8 @@
 -- `rules::keep_terms` meets its contract: what is left to keep, kept with what is kept, gives all.
-use native.Mathlib.Omega.{arith}
 use Prim.Native.Nat.{◌-◌}
-use mathlib.Core.Path.{◌≡◌, sym, ◌∙◌}
+use mathlib.Core.Path.{◌≡◌}
 use Rattle.translator.specs.NestSheets.{modifiers_at}
 use Rattle.translator.specs.Keeping.{keep_all}
-use Rattle.translator.specs.KeepingLaws.{at_next, at-end}
 use Rattle.translator.proofs.rules.keep_terms.Given as goal
 
 abbrev pub invariant-loop-t : goal.invariant-loop-t

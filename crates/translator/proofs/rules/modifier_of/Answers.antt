@@ -1,5 +1,4 @@
 -- `rules::modifier_of` meets its contract.
-use borrow.Author.Rules.{rules}
 use Rattle.translator.proofs.rules.modifier_of.Goals as goal
 
 pub returns : goal.returns

@@ -1,5 +1,4 @@
 -- `rules::why_not` meets its contract.
-use borrow.Author.Rules.{rules}
 use Rattle.translator.proofs.rules.why_not.Goals as goal
 
 pub returns : goal.returns

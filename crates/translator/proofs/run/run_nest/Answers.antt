@@ -1,18 +1,11 @@
 -- `run::run_nest` meets its contract: 15 first, then a refusal of the nest, then the run of its sheet.
-use native.Mathlib.Omega.{arith}
-use borrow.Author.Rules.{rules}
-use Prim.Native.Nat.{ℕ}
-use mathlib.Core.Path.{◌≡◌, refl, sym, ◌∙◌, ap}
+use mathlib.Core.Path.{◌≡◌, sym, ◌∙◌, ap}
 use mathlib.Core.Bool.{true}
-use mathlib.Core.List.{List}
 use lib.ListN.{length}
-use borrow.Author.Tests.{not-true, not-false}
 use Rattle.engine.specs.Sheets.{allowed}
 use Rattle.engine.specs.Run.{Progress}
 use Rattle.translator.specs.Reading.{nest, nest_at, nested_of}
-use Rattle.translator.specs.Translation.{Outcome, outcome_of, run_nest}
-use Rattle.translator.specs.Promise3.{Delivered}
-use Rattle.translator.specs.declared.nest.NestAnswer.{NestAnswer}
+use Rattle.translator.specs.Translation.{Outcome, run_nest}
 use Rattle.translator.specs.declared.nest.Stage.TheVariants as stage
 use Rattle.translator.proofs.Nesting.{nesting}
 use Rattle.translator.proofs.Delivered.{delivered}

@@ -1,5 +1,4 @@
 -- `run::unrun` meets its contract.
-use borrow.Author.Rules.{rules}
 use Rattle.translator.proofs.run.unrun.Goals as goal
 
 pub returns : goal.returns

@@ -1,10 +1,8 @@
 -- `translate::copy` meets its contract: what is left to copy, stored in the room as it is, gives what all of it gives in the room as it was.
 use native.Mathlib.Omega.{arith}
 use borrow.Author.Rules.{rules}
-use Prim.Native.Nat.{◌-◌, ◌≤◌}
 use mathlib.Core.Path.{◌≡◌, refl, sym, ◌∙◌}
-use lib.ListN.{length, take, drop, length-set}
-use lib.Seq.{sets}
+use lib.ListN.{length, length-set}
 use Rattle.translator.proofs.Copies.{copied, copied_all}
 use Rattle.translator.proofs.translate.copy.Goals as goal
 

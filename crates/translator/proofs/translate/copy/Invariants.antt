@@ -1,11 +1,8 @@
 -- `translate::copy` meets its contract: what is left to copy, stored in the room as it is, gives what all of it gives in the room as it was.
-use native.Mathlib.Omega.{arith}
-use borrow.Author.Rules.{rules}
 use Prim.Native.Nat.{◌-◌, ◌≤◌}
-use mathlib.Core.Path.{◌≡◌, refl, sym, ◌∙◌}
-use lib.ListN.{length, take, drop, length-set}
+use mathlib.Core.Path.{◌≡◌}
+use lib.ListN.{length, take, drop}
 use lib.Seq.{sets}
-use Rattle.translator.proofs.Copies.{copied, copied_all}
 use Rattle.translator.proofs.translate.copy.Given as goal
 
 abbrev pub invariant-loop-k : goal.invariant-loop-k

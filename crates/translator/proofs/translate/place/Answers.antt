@@ -1,6 +1,5 @@
 -- `translate::place` meets its contract: what stands on the page is the sheet, and it is copied exactly if the room is not shorter.
 use native.Mathlib.Omega.{arith}
-use borrow.Author.Rules.{rules}
 use Prim.Native.Nat.{◌≤◌, ◌<◌}
 use mathlib.Core.Path.{◌≡◌, ap}
 use lib.ListN.{length, take}

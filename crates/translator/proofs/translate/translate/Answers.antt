@@ -1,5 +1,4 @@
 -- `translate::translate` meets its contract: the refusal of the nest, or what placing its sheet answers.
-use borrow.Author.Rules.{rules}
 use mathlib.Core.Path.{◌≡◌, refl, sym, ◌∙◌, ap}
 use Rattle.translator.specs.Reading.{nest, nest_at, nested_of}
 use Rattle.translator.proofs.Nesting.{nesting}

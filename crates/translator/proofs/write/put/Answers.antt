@@ -1,5 +1,4 @@
 -- `write::put` meets its contract.
-use borrow.Author.Rules.{rules}
 use Rattle.translator.specs.Pages.{put_one}
 use Rattle.translator.proofs.write.put.Goals as goal
 

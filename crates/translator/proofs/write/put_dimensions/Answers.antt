@@ -2,8 +2,6 @@
 use native.Mathlib.Omega.{arith}
 use Prim.Native.Nat.{◌-◌}
 use mathlib.Core.Path.{◌≡◌, sym, ◌∙◌}
-use Rattle.translator.specs.NestSheets.{dimension_ops}
-use Rattle.translator.specs.Pages.{put_all}
 use Rattle.translator.specs.PageLaws.{dimensions-next, dimensions-end}
 use Rattle.translator.proofs.write.put_dimensions.Goals as goal
 

@@ -1,10 +1,8 @@
 -- `write::put_dimensions` meets its contract: what is left to write, written onto the page as it is, gives all.
-use native.Mathlib.Omega.{arith}
 use Prim.Native.Nat.{◌-◌}
-use mathlib.Core.Path.{◌≡◌, sym, ◌∙◌}
+use mathlib.Core.Path.{◌≡◌}
 use Rattle.translator.specs.NestSheets.{dimension_ops}
 use Rattle.translator.specs.Pages.{put_all}
-use Rattle.translator.specs.PageLaws.{dimensions-next, dimensions-end}
 use Rattle.translator.proofs.write.put_dimensions.Given as goal
 
 abbrev pub invariant-loop-d : goal.invariant-loop-d

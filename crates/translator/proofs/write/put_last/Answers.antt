@@ -1,5 +1,4 @@
 -- `write::put_last` meets its contract.
-use borrow.Author.Rules.{rules}
 use Rattle.translator.specs.Pages.{put_calculation}
 use Rattle.translator.proofs.write.put_last.Goals as goal
 

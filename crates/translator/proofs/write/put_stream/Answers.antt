@@ -1,5 +1,4 @@
 -- `write::put_stream` meets its contract.
-use borrow.Author.Rules.{rules}
 use mathlib.Core.Path.{sym}
 use Rattle.translator.specs.PageLaws.{stream-put}
 use Rattle.translator.proofs.write.put_stream.Goals as goal

@@ -1,5 +1,4 @@
 -- `write::put_term` meets its contract.
-use borrow.Author.Rules.{rules}
 use borrow.Author.Tests.{eq-eqb, ne_eqb}
 use Rattle.translator.proofs.write.put_term.Goals as goal
 

@@ -2,9 +2,6 @@
 use native.Mathlib.Omega.{arith}
 use Prim.Native.Nat.{◌-◌}
 use mathlib.Core.Path.{◌≡◌, sym, ◌∙◌}
-use mathlib.Core.List.{map}
-use Rattle.translator.specs.NestSheets.{modifier_op, modifiers_at}
-use Rattle.translator.specs.Pages.{put_all}
 use Rattle.translator.specs.PageLaws.{terms-next, terms-end}
 use Rattle.translator.proofs.write.put_terms.Goals as goal
 

@@ -1,11 +1,9 @@
 -- `write::put_terms` meets its contract: what is left to write, written onto the page as it is, gives all.
-use native.Mathlib.Omega.{arith}
 use Prim.Native.Nat.{◌-◌}
-use mathlib.Core.Path.{◌≡◌, sym, ◌∙◌}
+use mathlib.Core.Path.{◌≡◌}
 use mathlib.Core.List.{map}
 use Rattle.translator.specs.NestSheets.{modifier_op, modifiers_at}
 use Rattle.translator.specs.Pages.{put_all}
-use Rattle.translator.specs.PageLaws.{terms-next, terms-end}
 use Rattle.translator.proofs.write.put_terms.Given as goal
 
 abbrev pub invariant-loop-t : goal.invariant-loop-t

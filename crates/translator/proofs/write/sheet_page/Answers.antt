@@ -1,5 +1,4 @@
 -- `write::sheet_page` meets its contract.
-use borrow.Author.Rules.{rules}
 use Rattle.translator.specs.PageLaws.{sheet-put}
 use Rattle.translator.proofs.write.sheet_page.Goals as goal
 
