@@ -1,7 +1,7 @@
 -- 14 of an operand, from what the address check found.
 --
 --   blames-none, blames-inside, blames-lane   no open stream; every element inside; a lane outside
-use Rattle.std.proofs.Common.{◌≡◌, ℕ, Bool, true, false, not, ◌&&◌, List, [], ◌∷◌, ℤ, sym, refl, ap, ◌∙◌, arith}
+use Rattle.std.proofs.Common.{◌≡◌, ℕ, Bool, true, false, List, [], ◌∷◌, ℤ, refl, ap, arith}
 use Rattle.codec.specs.declared.refusal.Role.{Role}
 use Rattle.codec.specs.declared.refusal.Refusal.TheVariants as refusal
 use Rattle.engine.specs.Checks.{first_of}

@@ -3,7 +3,7 @@
 --   body_at                     each calculation of a body stands at its place
 --   unread-number, operation-number   no sheet is refused with 14 before its run
 --   fell
-use Rattle.std.proofs.Common.{◌≡◌, ℕ, zero, suc, ◌+◌, ◌%◌, ◌<◌, ◌≤◌, true, List, [], ◌∷◌, length, get_or, sym, refl, ap, ◌∙◌, subst, mod-lt, arith}
+use Rattle.std.proofs.Common.{◌≡◌, ℕ, zero, suc, ◌+◌, ◌%◌, ◌<◌, ◌≤◌, true, List, [], ◌∷◌, length, get_or, sym, ap, ◌∙◌, subst, mod-lt, arith}
 use Rattle.codec.specs.NumberLaws.{AreBytes}
 use Rattle.codec.specs.Refusals.{number_of}
 use Rattle.codec.specs.Operations.{calculation_at}

@@ -6,7 +6,7 @@
 --   here-stop, size-told, gone-told   what a register remembers of the stop where it stands
 --   part-added                    the addresses of one part more
 --   part-within, part-on, part-last   a part more, of elements of one row
-use Rattle.std.proofs.Common.{◌≡◌, ℕ, zero, suc, ◌+◌, ◌-◌, ◌^◌, ◌<◌, ◌≤◌, min, Bool, true, false, cond, not, ◌||◌, eqb, ltb, List, [], ◌∷◌, ◌++◌, length, get_or, take, drop, set, replicate, ℤ, pos, ◌+ℤ◌, ◌*ℤ◌, sym, refl, ap, ◌∙◌, subst, ap₂, append_assoc, append-nil, add-one, arith, length-drop, length-set, get_or-drop, take-suc, get_or-set_same, take-suc-set, ltb-false, ltb-true, lt-ltb}
+use Rattle.std.proofs.Common.{◌≡◌, ℕ, zero, suc, ◌+◌, ◌-◌, ◌<◌, ◌≤◌, min, Bool, true, false, cond, not, ◌||◌, eqb, ltb, List, [], ◌∷◌, ◌++◌, length, get_or, take, drop, set, replicate, ℤ, pos, ◌+ℤ◌, ◌*ℤ◌, sym, refl, ap, ◌∙◌, subst, ap₂, append_assoc, append-nil, add-one, arith, length-drop, length-set, get_or-drop, take-suc, get_or-set_same, take-suc-set, ltb-false, ltb-true, lt-ltb}
 use mathlib.Core.List.{map-append}
 use lib.Seq.{set-get_or}
 use lib.IntN.{+ℤ_assoc, +ℤ_idr, *ℤ-one, *ℤ-zero}
@@ -16,7 +16,7 @@ use Rattle.codec.specs.declared.header.Coupling.{Coupling}
 use Rattle.codec.specs.declared.header.Coupling.TheVariants.{Uncoupled, Coupled}
 use Rattle.engine.specs.Configure.{Covers}
 use Rattle.engine.specs.Loops.{size_at}
-use Rattle.engine.specs.Chunks.{stops_in, stops, is_element, held_in, nothing_at, groups, stream_groups, chunk, height, differ}
+use Rattle.engine.specs.Chunks.{stops_in, stops, held_in, nothing_at, groups, stream_groups, chunk, height, differ}
 use Rattle.engine.specs.FlagLaws.{differ_next, height-between}
 use Rattle.engine.specs.GroupLaws.{left_in_group, left-some}
 use Rattle.engine.specs.ChunkLaws.{groups-join, chunk-length, chunk-stops}
@@ -28,7 +28,7 @@ use Rattle.engine.specs.Registers.{is_open, index_of, shape_of, standing, moved_
 use Rattle.engine.specs.ComeLaws.{past-lanes}
 use Rattle.engine.specs.IndexLaws.{address-index, index-length}
 use Rattle.engine.specs.StopWalk.{covers, here-small}
-use Rattle.engine.specs.StopPlaces.{stop-told, size-held, size-nothing, inner_below}
+use Rattle.engine.specs.StopPlaces.{size-nothing}
 use Rattle.engine.specs.Walk.{Stop}
 use Rattle.engine.specs.Places.{Place, place_at, in_row, along_of, Onward, ends_at, Ready}
 use Rattle.engine.specs.Stretches.{progression, addresses_in, joined_in, addresses_of}

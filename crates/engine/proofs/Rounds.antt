@@ -4,7 +4,7 @@
 --   after-width, remembers-written   a register after its chunk
 --   round, refused-so             a calculation that was carried out, or refused, as the definitions have it
 --   Laid, three-on                the arrays of a run; after a calculation
-use Rattle.std.proofs.Common.{◌≡◌, ℕ, ◌*◌, ◌/◌, ◌<◌, ◌≤◌, Bool, true, false, cond, List, [], length, get_or, set, ℤ, sym, refl, ap, ◌∙◌, subst, ap₂, arith}
+use Rattle.std.proofs.Common.{◌≡◌, ℕ, ◌*◌, ◌/◌, ◌<◌, ◌≤◌, Bool, true, false, cond, List, [], length, get_or, set, ℤ, sym, refl, ap, ◌∙◌, subst, ap₂}
 use lib.ListN.{length-map}
 use Rattle.codec.specs.TestLaws.{never}
 use Rattle.codec.specs.declared.operation.Task.{Task}
@@ -19,13 +19,12 @@ use Rattle.engine.specs.EffectLaws.{length-lanes, outcome-length}
 use Rattle.engine.specs.Stretches.{stored_at}
 use Rattle.engine.specs.Rows.{pattern_at}
 use Rattle.engine.specs.Runnings.{view_of, Remembers, filled_with, afterwards, listed_in}
-use Rattle.engine.specs.Operands.{Operates, operand_from, Taken, lanes_of, lanes_out, why_on, results_on, Calculated, CarriedOut}
-use Rattle.engine.specs.OperandLaws.{source-count}
+use Rattle.engine.specs.Operands.{operand_from, Taken, lanes_of, lanes_out, results_on, Calculated}
 use Rattle.engine.specs.Calculate.{memory_after}
-use Rattle.engine.specs.Calculations.{lanes_in, outcome_of, Fit, Within, Cleared, Carries}
+use Rattle.engine.specs.Calculations.{lanes_in, outcome_of, Fit, Cleared, Carries}
 use Rattle.engine.specs.Layouts.{no_running, view_at, registers_in, LaidOut}
 use Rattle.engine.specs.LayoutLaws.{views-at, views-set, laid-set}
-use Rattle.engine.proofs.Carrying.{source-lanes, source-shown, target-shown, remembers-filled, taken-long}
+use Rattle.engine.proofs.Carrying.{source-lanes, source-shown, target-shown, remembers-filled}
 use Rattle.engine.proofs.Ordered.{carried}
 use Rattle.engine.proofs.Clearing.{some-reason}
 use Rattle.engine.specs.declared.check.Why.{Why}

@@ -1,7 +1,6 @@
 -- What is done at a list of addresses: one address more, and a whole row.
-use Rattle.std.proofs.Common.{◌≡◌, ℕ, zero, suc, ◌+◌, ◌-◌, ◌*◌, ◌<◌, ◌≤◌, Bool, true, false, cond, ◌&&◌, leb, List, [], ◌∷◌, ◌++◌, map, length, get_or, take, drop, set, ℤ, pos, negsuc, ◌+ℤ◌, ◌*ℤ◌, neg_ℤ, nat_abs, sym, refl, ap, ◌∙◌, suc-mul, mul_comm, mul-le-mul_left, add-one, arith, length-drop, length-take-le, get_or-drop, take_all, get_or-take, take-suc, le-leb, leb-true}
+use Rattle.std.proofs.Common.{◌≡◌, ℕ, zero, suc, ◌+◌, ◌-◌, ◌*◌, ◌<◌, ◌≤◌, Bool, true, false, cond, ◌&&◌, leb, List, [], ◌∷◌, ◌++◌, map, length, get_or, take, drop, set, ℤ, pos, negsuc, ◌+ℤ◌, ◌*ℤ◌, neg_ℤ, nat_abs, sym, refl, ap, ◌∙◌, suc-mul, mul_comm, mul-le-mul_left, add-one, arith, length-drop, length-take-le, get_or-drop, take_all, take-suc, le-leb, leb-true}
 use native.Mathlib.Decide.{dec_lt}
-use lib.ListN.{length-map}
 use lib.Seq.{sets}
 use lib.IntN.{one, *ℤ-one, *ℤ-zero, +ℤ_idr, +ℤ_assoc}
 use lib.Signed.{non_neg}
@@ -12,14 +11,14 @@ use Rattle.engine.specs.AddressLaws.{mul-add-right}
 use Rattle.engine.specs.Gains.{sub-less, sub-pos}
 use Rattle.engine.specs.Memory.{value_at, little_endian, lanes_from, joined, packed}
 use Rattle.engine.specs.ByteLaws.{Bytewise, length-little}
-use Rattle.engine.specs.PackedLaws.{length-lanes, zeros, joined-lanes, packed-front, packed-lanes}
+use Rattle.engine.specs.PackedLaws.{length-lanes, zeros, joined-lanes, packed-lanes}
 use Rattle.engine.specs.Lanes.{lanewise}
 use Rattle.engine.specs.EffectLaws.{lanewise-length}
 use Rattle.engine.specs.ContentLaws.{lanewise-at}
 use Rattle.engine.specs.Stretches.{progression, all_within, lane_without, fetched_at, stored_at}
 use Rattle.engine.proofs.ByteSteps.{sets-append}
 use Rattle.engine.proofs.PlaceSteps.{inside-room}
-use Rattle.engine.proofs.LaneSteps.{packed_more, packed_none, lane-from, lane-at}
+use Rattle.engine.proofs.LaneSteps.{packed_more, lane-from, lane-at}
 
 -- ---- whether addresses lie inside
 

@@ -6,7 +6,7 @@
 --   lane-written               of a store only a lane that would be written is named
 --   operand_in, LaneOutside, blamed-lane   the register named, and its lane
 --   Fell                       a run that is refused with 14 (proof: proofs/Fallen)
-use Rattle.std.specs.Prelude.{◌≡◌, ℕ, ◌+◌, ◌<◌, ◌≤◌, false, List, [], length, take, ℤ, ◌==◌, ◌≢◌, slice_index_or, refl}
+use Rattle.std.specs.Prelude.{◌≡◌, ℕ, ◌+◌, ◌<◌, false, List, [], length, take, ℤ, ◌==◌, ◌≢◌, slice_index_or, refl}
 use Rattle.std.proofs.Common.{sym, ◌∙◌, ap, subst, arith, length-take, get_or-take, eq-eqb}
 use Rattle.codec.specs.TestLaws.{never}
 use Rattle.codec.specs.Refusals.{number_of, role_number, rolled, one-role}

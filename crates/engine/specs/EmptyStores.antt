@@ -26,7 +26,7 @@ use Rattle.engine.specs.AfterLaws.{not-both}
 use Rattle.engine.specs.Histories.{Becomes, Stores, Did}
 use Rattle.engine.specs.declared.check.Why.TheVariants.{Because}
 use Rattle.engine.specs.declared.stream.Pattern.{Pattern}
-use Rattle.engine.specs.declared.register.State.TheVariants.{Plain, Open}
+use Rattle.engine.specs.declared.register.State.TheVariants.{Open}
 use Rattle.engine.specs.declared.register.Register.{Register}
 
 -- no lanes change no memory

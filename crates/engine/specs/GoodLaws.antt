@@ -32,7 +32,7 @@ use Rattle.codec.specs.declared.operation.Modifier as given
 use Rattle.codec.specs.declared.operation.Operation.{Operation}
 use Rattle.codec.specs.declared.operation.Operation.TheVariants as op
 use Rattle.codec.specs.declared.refusal.Refusal.{Refusal}
-use Rattle.engine.specs.Chunks.{stops, height}
+use Rattle.engine.specs.Chunks.{stops}
 use Rattle.engine.specs.Rules.{highs_of, product}
 use Rattle.engine.specs.Addresses.{no_bytes, no_elements}
 use Rattle.engine.specs.Checks.{Check, ◌if◌, first_of}

@@ -3,7 +3,7 @@
 --   operand-outside                                            14 of an operand
 --   source-count, source-outside, source-lanes, source-after   an operand that is a source
 --   target-count, target-outside, target-after, target-memory  one that is the destination
-use Rattle.std.specs.Prelude.{◌≡◌, ℕ, ◌/◌, ◌<◌, ◌≤◌, min, Bool, true, false, cond, not, ◌&&◌, List, [], ◌∷◌, map, length, take, nat_lt}
+use Rattle.std.specs.Prelude.{◌≡◌, ℕ, ◌/◌, ◌<◌, ◌≤◌, min, Bool, true, false, cond, ◌&&◌, List, [], ◌∷◌, map, length, take, nat_lt}
 use Rattle.std.proofs.Math.Path.{refl, sym, ap}
 use Rattle.std.proofs.Common.{◌∙◌, arith, length-take, lt-ltb, le-ltb}
 use Rattle.std.proofs.lemmas.List.{length-map}

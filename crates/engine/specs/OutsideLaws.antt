@@ -2,7 +2,7 @@
 --
 --   first_lane, only-lane          of elements that do not all lie inside: the first outside, and no other is
 --   first-outside, outside-first   the same of what an open stream would move
-use Rattle.std.specs.Prelude.{◌≡◌, ℕ, zero, suc, ◌<◌, Bool, true, false, cond, not, ◌&&◌, List, [], ◌∷◌, length, slice_index_or}
+use Rattle.std.specs.Prelude.{◌≡◌, ℕ, zero, suc, ◌<◌, Bool, true, false, not, ◌&&◌, List, [], ◌∷◌, length, slice_index_or}
 use Rattle.std.proofs.Math.Path.{refl}
 use Rattle.std.proofs.Common.{sym, ◌∙◌, ap}
 use native.Mathlib.Omega.{arith}
@@ -11,12 +11,10 @@ use Rattle.codec.specs.TestLaws.{never, never_true, both}
 use Rattle.engine.specs.Addresses.{address, inside}
 use Rattle.engine.specs.Registers.{is_open}
 use Rattle.engine.specs.Calculate.{all_inside, lane_outside, outside}
-use Rattle.engine.specs.Allowed.{Lies, OpenLie}
 use Rattle.engine.specs.AllowedLaws.{is-open}
-use Rattle.engine.specs.CalculatesLaws.{inside-lies, outside-lie}
+use Rattle.engine.specs.CalculatesLaws.{inside-lies}
 use Rattle.engine.specs.Reasons.{FirstOutside}
 use Rattle.engine.specs.declared.stream.Pattern.{Pattern}
-use Rattle.engine.specs.declared.register.State.TheVariants.{Open}
 use Rattle.engine.specs.declared.register.Register.{Register}
 
 -- ---- elements of a pattern

@@ -9,7 +9,7 @@
 --   listed_in                      the addresses of a chunk
 --   row_ahead, part_of              a chunk of the present row; a part
 --   Near, Looks                   a chunk looked at
-use Rattle.std.specs.Prelude.{◌≡◌, ℕ, ◌+◌, ◌^◌, ◌≤◌, Bool, true, cond, List, [], ◌∷◌, length, take, ℤ, pos, ◌+ℤ◌, ◌*ℤ◌, ◌==◌, slice_set, unsigned_abs}
+use Rattle.std.specs.Prelude.{◌≡◌, ℕ, ◌+◌, ◌^◌, ◌≤◌, true, cond, List, [], ◌∷◌, length, take, ℤ, pos, ◌+ℤ◌, ◌*ℤ◌, ◌==◌, slice_set, unsigned_abs}
 use Rattle.codec.specs.declared.amounts.Bytes.{Bytes}
 use Rattle.engine.specs.Chunks.{held_in, chunk}
 use Rattle.engine.specs.Registers.{is_open, no_pattern, moved_by}

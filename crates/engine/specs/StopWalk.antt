@@ -21,7 +21,6 @@ use Rattle.std.proofs.lemmas.List.{drop-append-le}
 use Rattle.std.proofs.Math.Seq.{drop-append-add}
 use Rattle.codec.specs.TestLaws.{both}
 use Rattle.codec.specs.Headers.{coupling_in_range}
-use Rattle.codec.specs.declared.header.Coupling.{Coupling}
 use Rattle.codec.specs.declared.header.Coupling.TheVariants.{Uncoupled, Coupled}
 use Rattle.engine.specs.Loops.{size_at, join, loops, elements}
 use Rattle.engine.specs.Chunks.{or_one, pass_stops, stops_in, stops, is_element, nothing_at}

@@ -29,7 +29,6 @@ use Rattle.engine.specs.Sheets.{run}
 use Rattle.engine.specs.Allowed.{Fits, Lies, AllLie}
 use Rattle.engine.specs.AllowedLaws.{fits-allowed}
 use Rattle.engine.specs.InStep.{InStep}
-use Rattle.engine.specs.InStep as step
 use Rattle.engine.specs.InStepLaws.{StepsDone, in_step}
 use Rattle.engine.specs.Promise1.{LoopsOn, world}
 use Rattle.engine.proofs.Promise1.{Runs, sheet-runs}

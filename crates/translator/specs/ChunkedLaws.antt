@@ -14,7 +14,7 @@ use Rattle.engine.specs.Loops.{join}
 use Rattle.engine.specs.Configure.{Covers}
 use Rattle.engine.specs.Members.{Each, Ordered}
 use Rattle.engine.specs.GroupLaws.{join-none, join-next}
-use Rattle.engine.specs.Chunks.{elements_among, held_in, chunk}
+use Rattle.engine.specs.Chunks.{elements_among, held_in}
 use Rattle.engine.specs.ChunkLaws.{groups-join, chunk_of-front}
 use Rattle.engine.specs.StopLaws.{among-append, stops_in-elements}
 use Rattle.engine.specs.InStep.{chunks_done}

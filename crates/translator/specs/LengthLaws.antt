@@ -14,7 +14,6 @@ use Rattle.codec.specs.declared.refusal.Refusal.{Refusal}
 use Rattle.translator.specs.Fields.{Field, width, loops, coupled, operation, count, term, base, stride, term_fields, loop_fields, stride_fields, fields_of, number_in}
 use Rattle.translator.specs.FieldLists.{All}
 use Rattle.translator.specs.Reading.{nest, refused, nest_at, numbers_bytes, nest_bytes}
-use Rattle.translator.specs.Reading
 use Rattle.translator.specs.Acceptance.{InRange}
 use Rattle.translator.specs.NestStands.{NumberInRange}
 use Rattle.translator.specs.NestWritten.{ranged-all}

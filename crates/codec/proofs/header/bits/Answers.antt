@@ -4,7 +4,6 @@ use lib.Bits.{and_mask}
 use Prim.Native.Nat.{◌/◌, ◌^◌}
 use lib.Pow.{shl_exact, pow_pos}
 use native.Mathlib.Nat.{one-mul}
-use borrow.Author.Rules.{rules}
 use Rattle.codec.proofs.header.bits.Goals as goal
 
 pub overflow_sub-result : goal.overflow_sub-result

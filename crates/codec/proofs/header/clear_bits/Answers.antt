@@ -1,7 +1,6 @@
 -- `header::clear_bits` meets its contract.
 use borrow.Author.Tests.{eq-eqb, ne_eqb}
 use mathlib.Core.Path.{sym, ◌∙◌}
-use borrow.Author.Rules.{rules}
 use Rattle.codec.proofs.header.clear_bits.Goals as goal
 
 pub returns-then-bits-ne0 : goal.returns-then-bits-ne0

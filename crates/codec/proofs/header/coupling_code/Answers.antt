@@ -2,7 +2,6 @@
 use native.Mathlib.Omega.{arith}
 use Prim.Native.Nat.{◌≤◌}
 use Rattle.codec.specs.HeaderLaws.{coupled-range}
-use borrow.Author.Rules.{rules}
 use Rattle.codec.proofs.header.coupling_code.Goals as goal
 
 pub overflow_sub-result : goal.overflow_sub-result

@@ -1,6 +1,5 @@
 -- `header::coupling_in_range` meets its contract.
 use borrow.Author.Tests.{le-leb, lt-leb}
-use borrow.Author.Rules.{rules}
 use Rattle.codec.proofs.header.coupling_in_range.Goals as goal
 
 pub returns-then-d-ge1 : goal.returns-then-d-ge1

@@ -5,7 +5,6 @@ use mathlib.Core.Path.{◌≡◌}
 use mathlib.Core.Bool.{true}
 use lib.Dec.{eqb}
 use Rattle.codec.specs.Headers.{bits_of}
-use borrow.Author.Rules.{rules}
 use Rattle.codec.proofs.header.fixed_bits.Goals as goal
 
 pub returns-then-bits-ne11 : goal.returns-then-bits-ne11

@@ -1,6 +1,5 @@
 -- `header::header_in_range` meets its contract.
 use borrow.Author.Tests.{le-leb, lt-leb}
-use borrow.Author.Rules.{rules}
 use Rattle.codec.proofs.header.header_in_range.Goals as goal
 
 pub returns-then-h-le31 : goal.returns-then-h-le31

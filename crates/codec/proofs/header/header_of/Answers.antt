@@ -1,7 +1,6 @@
 -- `header::header_of` meets its contract: 3, then 4, else the fields.
 use mathlib.Core.Path.{sym, ◌∙◌}
 use Rattle.codec.specs.Headers.{header_of}
-use borrow.Author.Rules.{rules}
 use Rattle.codec.proofs.header.header_of.Goals as goal
 
 pub returns-then-clear_bits : goal.returns-then-clear_bits

@@ -1,6 +1,5 @@
 -- `header::header_said` meets its contract: field by field.
 use Rattle.codec.specs.Headers.{header_said}
-use borrow.Author.Rules.{rules}
 use Rattle.codec.proofs.header.header_said.Goals as goal
 
 pub returns : goal.returns

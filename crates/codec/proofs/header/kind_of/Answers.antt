@@ -1,7 +1,6 @@
 -- `header::kind_of` meets its contract.
 use borrow.Author.Tests.{eq-eqb, ne_eqb}
 use mathlib.Core.Path.{sym, ◌∙◌}
-use borrow.Author.Rules.{rules}
 use Rattle.codec.proofs.header.kind_of.Goals as goal
 
 pub returns-then-bits-eq0 : goal.returns-then-bits-eq0

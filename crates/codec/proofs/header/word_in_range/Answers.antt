@@ -3,7 +3,6 @@ use native.Mathlib.Omega.{arith}
 use Prim.Native.Nat.{◌≤◌}
 use Rattle.codec.specs.Headers.{word_of}
 use Rattle.codec.specs.HeaderLaws.{header-range}
-use borrow.Author.Rules.{rules}
 use Rattle.codec.proofs.header.word_in_range.Goals as goal
 
 pub overflow_mul-result : goal.overflow_mul-result

@@ -1,6 +1,5 @@
 -- `header::word_of` meets its contract.
 use mathlib.Core.Path.{sym, ◌∙◌}
-use borrow.Author.Rules.{rules}
 use Rattle.codec.proofs.header.word_of.Goals as goal
 
 pub word_in_range-requires : goal.word_in_range-requires

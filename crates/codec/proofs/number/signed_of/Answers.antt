@@ -4,7 +4,6 @@ use mathlib.Core.Path.{◌≡◌, refl, ap}
 use native.Mathlib.Nat.{zero-add}
 use native.Mathlib.Omega.{arith}
 use lib.IntN.{negsuc, pos, ◌-ℤ◌}
-use borrow.Author.Rules.{rules}
 use borrow.Author.Tests.{eq-eqb, ne_eqb}
 use Rattle.codec.specs.Numbers.{signed_of}
 use Rattle.codec.proofs.Integers.{fits, back, cast}

@@ -7,7 +7,6 @@ use Rattle.codec.specs.declared.operation.Decoded.{Decoded}
 use Rattle.codec.specs.declared.operation.Decoded.TheVariants as decoded
 use Rattle.codec.specs.declared.refusal.Refusal.{Refusal}
 use Rattle.codec.specs.declared.refusal.Refusal.TheVariants.{OutOfRange}
-use borrow.Author.Rules.{rules}
 use Rattle.codec.proofs.operation.decode.Goals as goal
 
 -- a kind that is none of 1 to 5

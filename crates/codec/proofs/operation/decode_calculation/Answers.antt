@@ -1,12 +1,11 @@
 -- `operation::decode_calculation` meets its contract: each number in range leads on to the next, as in `calculation_at`.
-use borrow.Author.Tests.{le-leb, lt-leb, not-true, not-false}
+use borrow.Author.Tests.{le-leb, lt-leb}
 use mathlib.Core.Path.{◌≡◌, sym, ◌∙◌}
 use Prim.Native.Nat.{ℕ}
 use Rattle.codec.specs.declared.operation.Body.{Body}
 use Rattle.codec.specs.declared.operation.Body.TheVariants as body
 use Rattle.codec.specs.Operations.{is_register, is_second, task_coded, calculation_at}
 use Rattle.codec.proofs.Asked.{Asked, calculation, number}
-use borrow.Author.Rules.{rules}
 use Rattle.codec.proofs.operation.decode_calculation.Goals as goal
 
 -- what is asked

@@ -1,5 +1,5 @@
 -- `operation::dimension_at` meets its contract: each number in range leads on to the next, as in `dimension_at`; a signed number that was read fits 64 bits.
-use borrow.Author.Tests.{le-leb, lt-leb, not-true, not-false}
+use borrow.Author.Tests.{le-leb, lt-leb}
 use mathlib.Core.Path.{◌≡◌, sym, ◌∙◌}
 use Prim.Native.Nat.{ℕ}
 use lib.IntN.{ℤ}
@@ -9,7 +9,6 @@ use Rattle.codec.specs.Operations.{is_reach, is_size, dimension_at}
 use Rattle.codec.specs.declared.operation.Operation.TheVariants as op
 use Rattle.codec.proofs.Fields.{signed_back, signed-reach}
 use Rattle.codec.proofs.Asked.{Asked, operation, answer, number, signed}
-use borrow.Author.Rules.{rules}
 use Rattle.codec.proofs.operation.dimension_at.Goals as goal
 
 -- what each number in range leads on to

@@ -2,7 +2,6 @@
 use mathlib.Core.Path.{sym, ◌∙◌}
 use borrow.Author.Tests.{le-leb, lt-leb}
 use Rattle.codec.specs.Operations.{end_at}
-use borrow.Author.Rules.{rules}
 use Rattle.codec.proofs.operation.end_at.Goals as goal
 
 pub returns-in_default : goal.returns-in_default

@@ -1,7 +1,6 @@
 -- `operation::is_second` meets its contract: each test decides one part of it.
 use mathlib.Core.Path.{sym, ◌∙◌}
 use borrow.Author.Tests.{le-leb, lt-leb}
-use borrow.Author.Rules.{rules}
 use Rattle.codec.proofs.operation.is_second.Goals as goal
 
 pub returns-then-second-gt31 : goal.returns-then-second-gt31

@@ -7,7 +7,6 @@ use Rattle.codec.specs.declared.operation.Decoded.TheVariants as decoded
 use Rattle.codec.specs.Operations.{up_to, is_displacement, parameter_coded, behaviour_coded, modifier_at}
 use Rattle.codec.specs.declared.operation.Operation.TheVariants as op
 use Rattle.codec.proofs.Asked.{Asked, operation, answer, number}
-use borrow.Author.Rules.{rules}
 use Rattle.codec.proofs.operation.modifier_at.Goals as goal
 
 -- what each number in range leads on to

@@ -3,12 +3,10 @@ use borrow.Author.Tests.{le-leb, lt-leb}
 use mathlib.Core.Path.{◌≡◌, sym, ◌∙◌}
 use Prim.Native.Nat.{ℕ}
 use Rattle.codec.specs.declared.operation.Decoded.{Decoded}
-use Rattle.codec.specs.declared.operation.Decoded.TheVariants as decoded
 use Rattle.codec.specs.NumberLaws.{number-below}
 use Rattle.codec.specs.Headers.{header_of}
 use Rattle.codec.specs.Operations.{is_base, open_of, open_at}
 use Rattle.codec.proofs.Asked.{Asked, operation, answer, number}
-use borrow.Author.Rules.{rules}
 use Rattle.codec.proofs.operation.open_at.Goals as goal
 
 -- the word leads on to the base, and a base in range to what the word says

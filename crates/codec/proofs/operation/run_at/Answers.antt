@@ -7,7 +7,6 @@ use Rattle.codec.specs.declared.operation.Decoded.TheVariants as decoded
 use Rattle.codec.specs.Operations.{is_count, run_at}
 use Rattle.codec.specs.declared.operation.Operation.TheVariants as op
 use Rattle.codec.proofs.Asked.{Asked, operation, answer, number}
-use borrow.Author.Rules.{rules}
 use Rattle.codec.proofs.operation.run_at.Goals as goal
 
 -- a loop register in range leads on to the count

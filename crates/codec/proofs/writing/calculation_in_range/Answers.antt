@@ -5,7 +5,6 @@ use mathlib.Core.Path.{◌≡◌, sym, ◌∙◌, ap}
 use mathlib.Core.Bool.{Bool}
 use borrow.Author.Tests.{le-leb, lt-leb}
 use Rattle.codec.specs.Operations.{has_one_source}
-use borrow.Author.Rules.{rules}
 use Rattle.codec.proofs.writing.calculation_in_range.Goals as goal
 
 -- what was asked of the code that was found

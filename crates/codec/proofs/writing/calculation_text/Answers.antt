@@ -3,7 +3,6 @@ use native.Mathlib.Omega.{arith}
 use mathlib.Core.Path.{◌∙◌}
 use Rattle.codec.specs.Operations.{calculation_bytes}
 use Rattle.codec.specs.RangeLaws.{calculation-range}
-use borrow.Author.Rules.{rules}
 use Rattle.codec.proofs.writing.calculation_text.Goals as goal
 
 pub with_number-one-requires : goal.with_number-one-requires

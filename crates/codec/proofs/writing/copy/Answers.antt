@@ -1,9 +1,7 @@
 -- `writing::copy` meets its contract: what is left to copy, stored in the slice as it is, gives what the whole text stored in the slice as it was.
 use native.Mathlib.Omega.{arith}
-use Prim.Native.Nat.{◌+◌, ◌-◌, ◌≤◌}
 use mathlib.Core.Path.{◌≡◌, refl, sym, ◌∙◌}
-use lib.ListN.{length, take, drop, length-set}
-use lib.Seq.{sets}
+use lib.ListN.{length, length-set}
 use native.Mathlib.Nat.{add-zero}
 use Rattle.codec.proofs.Texts.{copied, copied_all}
 use borrow.Author.Rules.{rules}

@@ -5,7 +5,6 @@ use mir.Facts.{to_z-of_z}
 use mir.Syntax.{w64}
 use borrow.Author.Tests.{le-leb, lt-leb}
 use Rattle.codec.specs.Operations.{is_reach}
-use borrow.Author.Rules.{rules}
 use Rattle.codec.proofs.writing.dimension_in_range.Goals as goal
 
 pub returns-then-d-gt31 : goal.returns-then-d-gt31

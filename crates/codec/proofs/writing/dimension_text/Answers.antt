@@ -4,7 +4,6 @@ use mathlib.Core.Path.{◌∙◌}
 use Rattle.codec.specs.Operations.{operation_bytes}
 use Rattle.codec.proofs.Integers.{back}
 use Rattle.codec.specs.RangeLaws.{dimension-range, reach-small}
-use borrow.Author.Rules.{rules}
 use Rattle.codec.proofs.writing.dimension_text.Goals as goal
 
 pub with_number-one-requires : goal.with_number-one-requires

@@ -3,7 +3,6 @@ use native.Mathlib.Omega.{arith}
 use mathlib.Core.Path.{◌∙◌}
 use borrow.Author.Tests.{leb-true}
 use Rattle.codec.specs.Operations.{operation_bytes}
-use borrow.Author.Rules.{rules}
 use Rattle.codec.proofs.writing.end_text.Goals as goal
 
 pub with_number-requires : goal.with_number-requires

@@ -1,7 +1,6 @@
 -- `writing::number_text` meets its contract: a number behind nothing.
 use native.Mathlib.Omega.{arith}
 use mathlib.Core.Path.{◌∙◌}
-use borrow.Author.Rules.{rules}
 use Rattle.codec.proofs.writing.number_text.Goals as goal
 
 pub returns : goal.returns

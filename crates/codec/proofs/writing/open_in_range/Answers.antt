@@ -1,7 +1,6 @@
 -- `writing::open_in_range` meets its contract: the header, then the base.
 use mathlib.Core.Path.{sym, ◌∙◌}
 use Rattle.codec.specs.Operations.{operation_in_range}
-use borrow.Author.Rules.{rules}
 use Rattle.codec.proofs.writing.open_in_range.Goals as goal
 
 pub returns-then-header_in_range : goal.returns-then-header_in_range

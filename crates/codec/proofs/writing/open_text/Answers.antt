@@ -4,7 +4,6 @@ use mathlib.Core.Path.{◌∙◌}
 use native.Mathlib.Nat.{add-zero}
 use Rattle.codec.specs.Operations.{operation_bytes}
 use Rattle.codec.specs.RangeLaws.{open-range}
-use borrow.Author.Rules.{rules}
 use Rattle.codec.proofs.writing.open_text.Goals as goal
 
 pub word_in_range-requires : goal.word_in_range-requires

@@ -1,6 +1,5 @@
 -- `writing::operation_in_range` meets its contract: kind by kind.
 use Rattle.codec.specs.Operations.{operation_in_range}
-use borrow.Author.Rules.{rules}
 use Rattle.codec.proofs.writing.operation_in_range.Goals as goal
 
 pub returns-in-Open : goal.returns-in-Open

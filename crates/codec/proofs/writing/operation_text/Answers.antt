@@ -1,6 +1,5 @@
 -- `writing::operation_text` meets its contract: kind by kind.
 use Rattle.codec.specs.Operations.{operation_in_range}
-use borrow.Author.Rules.{rules}
 use Rattle.codec.proofs.writing.operation_text.Goals as goal
 
 pub open_text-requires : goal.open_text-requires

@@ -2,7 +2,6 @@
 use mathlib.Core.Path.{sym, ◌∙◌}
 use Rattle.codec.specs.Operations.{calculation_in_range, calculation_bytes}
 use Rattle.codec.proofs.Texts.{agreed, no-range}
-use borrow.Author.Rules.{rules}
 use Rattle.codec.proofs.writing.put_calculation.Goals as goal
 
 pub calculation_text-t-requires : goal.calculation_text-t-requires

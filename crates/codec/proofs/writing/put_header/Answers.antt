@@ -3,7 +3,6 @@ use mathlib.Core.Path.{sym, ◌∙◌}
 use Rattle.codec.specs.Headers.{header_in_range, word_of}
 use Rattle.codec.specs.Numbers.{number_bytes}
 use Rattle.codec.proofs.Texts.{agreed, no-range}
-use borrow.Author.Rules.{rules}
 use Rattle.codec.proofs.writing.put_header.Goals as goal
 
 pub word_in_range-requires : goal.word_in_range-requires

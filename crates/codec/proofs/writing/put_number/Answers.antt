@@ -4,7 +4,6 @@ use borrow.Author.Tests.{lt-ltb, le-ltb}
 use Rattle.codec.specs.Numbers.{number_bytes}
 use Rattle.codec.specs.Writing.{is_number}
 use Rattle.codec.proofs.Texts.{agreed, no-range}
-use borrow.Author.Rules.{rules}
 use Rattle.codec.proofs.writing.put_number.Goals as goal
 
 pub returns-then-v-lt4294967296 : goal.returns-then-v-lt4294967296

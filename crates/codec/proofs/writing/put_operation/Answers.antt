@@ -2,7 +2,6 @@
 use mathlib.Core.Path.{sym, ◌∙◌}
 use Rattle.codec.specs.Operations.{operation_in_range, operation_bytes}
 use Rattle.codec.proofs.Texts.{agreed, no-range}
-use borrow.Author.Rules.{rules}
 use Rattle.codec.proofs.writing.put_operation.Goals as goal
 
 pub operation_text-t-requires : goal.operation_text-t-requires

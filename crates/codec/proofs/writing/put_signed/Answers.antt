@@ -7,7 +7,6 @@ use borrow.Author.Tests.{ltb-true}
 use Rattle.codec.specs.Operations.{signed_bytes}
 use Rattle.codec.specs.Writing.{is_signed}
 use Rattle.codec.proofs.Texts.{agreed, no-range}
-use borrow.Author.Rules.{rules}
 use Rattle.codec.proofs.writing.put_signed.Goals as goal
 
 pub with_signed-t-requires : goal.with_signed-t-requires

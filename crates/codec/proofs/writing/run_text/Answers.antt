@@ -3,7 +3,6 @@ use native.Mathlib.Omega.{arith}
 use mathlib.Core.Path.{◌∙◌}
 use Rattle.codec.specs.Operations.{operation_bytes}
 use Rattle.codec.specs.RangeLaws.{run-range}
-use borrow.Author.Rules.{rules}
 use Rattle.codec.proofs.writing.run_text.Goals as goal
 
 pub with_number-one-requires : goal.with_number-one-requires

@@ -1,10 +1,10 @@
 -- `writing::with_number` meets its contract: what was pushed and the groups that are left are the groups of the number; so many groups hold what is left.
 use native.Mathlib.Omega.{arith}
-use Prim.Native.Nat.{ℕ, suc, ◌+◌, ◌/◌, ◌%◌, ◌^◌, ◌≤◌, ◌<◌}
+use Prim.Native.Nat.{◌+◌, ◌/◌, ◌%◌}
 use mathlib.Core.Path.{◌≡◌, refl, ◌∙◌}
 use mathlib.Core.List.{◌++◌}
 use lib.Seq.{append_snoc}
-use Rattle.codec.specs.Numbers.{groups_of, number_bytes}
+use Rattle.codec.specs.Numbers.{groups_of}
 use Rattle.codec.specs.NumberLaws.{last-group}
 use Rattle.codec.specs.Writing.{text_of}
 use Rattle.codec.proofs.Texts.{another}

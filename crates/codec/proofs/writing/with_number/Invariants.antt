@@ -1,13 +1,9 @@
 -- `writing::with_number` meets its contract: what was pushed and the groups that are left are the groups of the number; so many groups hold what is left.
-use native.Mathlib.Omega.{arith}
-use Prim.Native.Nat.{ℕ, suc, ◌+◌, ◌/◌, ◌%◌, ◌^◌, ◌≤◌, ◌<◌}
-use mathlib.Core.Path.{◌≡◌, refl, ◌∙◌}
+use Prim.Native.Nat.{ℕ, suc, ◌+◌, ◌^◌, ◌≤◌, ◌<◌}
+use mathlib.Core.Path.{◌≡◌}
 use mathlib.Core.List.{◌++◌}
-use lib.Seq.{append_snoc}
 use Rattle.codec.specs.Numbers.{groups_of, number_bytes}
-use Rattle.codec.specs.NumberLaws.{last-group}
 use Rattle.codec.specs.Writing.{text_of}
-use Rattle.codec.proofs.Texts.{another}
 use Rattle.codec.proofs.writing.with_number.Given as goal
 
 abbrev pub invariant-loop-rest : goal.invariant-loop-rest

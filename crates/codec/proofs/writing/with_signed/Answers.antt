@@ -1,7 +1,6 @@
 -- `writing::with_signed` meets its contract: a signed number is written as the number that stands for it.
 use mathlib.Core.Path.{◌∙◌}
 use mir.Facts.{to_z-of_z}
-use borrow.Author.Rules.{rules}
 use Rattle.codec.proofs.writing.with_signed.Goals as goal
 
 pub returns : goal.returns

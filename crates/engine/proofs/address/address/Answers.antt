@@ -1,6 +1,6 @@
 -- `address::address` meets its contract: after d turns the sum is the address over the first d dimensions, within 2^20 + d x 2^52; where there is no
 -- modifier, by its callee.
-use Rattle.std.proofs.Common.{◌≡◌, ◌+◌, ◌-◌, ◌*◌, ◌^◌, ◌≤◌, ◌+ℤ◌, nat_abs, sym, ap, ◌∙◌, arith, rules}
+use Rattle.std.proofs.Common.{◌≡◌, ◌+◌, ◌+ℤ◌, nat_abs, sym, ap, ◌∙◌, arith}
 use Rattle.engine.specs.Addresses.{address_up_to}
 use Rattle.engine.specs.Rows.{pattern_in}
 use Rattle.engine.proofs.RowReads.{base_read}

@@ -1,9 +1,7 @@
 -- `address::address` meets its contract: after d turns the sum is the address over the first d dimensions, within 2^20 + d x 2^52; where there is no
-use Rattle.std.proofs.Common.{◌≡◌, ◌+◌, ◌-◌, ◌*◌, ◌^◌, ◌≤◌, ◌+ℤ◌, nat_abs, sym, ap, ◌∙◌, arith, rules}
+use Rattle.std.proofs.Common.{◌≡◌, ◌+◌, ◌-◌, ◌*◌, ◌^◌, ◌≤◌, nat_abs}
 use Rattle.engine.specs.Addresses.{address_up_to}
 use Rattle.engine.specs.Rows.{pattern_in}
-use Rattle.engine.proofs.RowReads.{base_read}
-use Rattle.engine.proofs.AddressSteps.{up-to-none, up-to-next}
 use Rattle.engine.proofs.address.address.Given as goal
 
 abbrev pub invariant-loop-d : goal.invariant-loop-d

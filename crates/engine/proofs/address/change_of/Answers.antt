@@ -1,5 +1,5 @@
 -- `address::change_of` meets its contract: the difference of two such numbers fits.
-use Rattle.std.proofs.Common.{refl, arith, rules}
+use Rattle.std.proofs.Common.{refl, arith}
 use Rattle.engine.proofs.Exact.{minus-fits, minus-exact, minus-most}
 use Rattle.engine.proofs.address.change_of.Goals as goal
 

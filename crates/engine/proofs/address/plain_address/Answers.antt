@@ -1,6 +1,6 @@
 -- `address::plain_address` meets its contract: after d turns the sum is the address over the first d dimensions, within 2^20 + d x 2^52. With no
 -- modifier a dimension adds what its own offset and stride give.
-use Rattle.std.proofs.Common.{◌≡◌, suc, ◌+◌, ◌-◌, ◌*◌, ◌^◌, ◌≤◌, get_or, drop, ◌+ℤ◌, nat_abs, sym, ap, ◌∙◌, arith, rules}
+use Rattle.std.proofs.Common.{◌≡◌, suc, ◌+◌, get_or, drop, ◌+ℤ◌, nat_abs, sym, ap, ◌∙◌, arith}
 use Rattle.engine.specs.Addresses.{address_up_to}
 use Rattle.engine.specs.Rows.{pattern_in}
 use Rattle.engine.proofs.RowReads.{base_read, offset_read, stride-read}

@@ -1,5 +1,5 @@
 -- `address::stride_at` meets its contract: what the modifiers add is the difference of their gains, and nothing where there is none.
-use Rattle.std.proofs.Common.{◌≡◌, suc, get_or, drop, ◌+ℤ◌, nat_abs, sym, ap, ◌∙◌, arith, rules}
+use Rattle.std.proofs.Common.{◌≡◌, suc, get_or, drop, ◌+ℤ◌, nat_abs, sym, ap, ◌∙◌, arith}
 use Rattle.codec.specs.declared.operation.Parameter.TheVariants.{Stride}
 use Rattle.engine.specs.Loops.{modifiers_of, added}
 use Rattle.engine.specs.Addresses.{no_elements}

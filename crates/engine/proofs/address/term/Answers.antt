@@ -1,5 +1,5 @@
 -- `address::term` meets its contract: it is what its callees answer, put together.
-use Rattle.std.proofs.Common.{suc, get_or, drop, ◌+ℤ◌, ap, ◌∙◌, rules}
+use Rattle.std.proofs.Common.{suc, get_or, drop, ◌+ℤ◌, ap, ◌∙◌}
 use Rattle.engine.specs.Addresses.{offset_at, in_bytes}
 use Rattle.engine.specs.Rows.{pattern_in}
 use Rattle.engine.proofs.address.term.Goals as goal

@@ -1,5 +1,5 @@
 -- `address::times` meets its contract: at most 64 steps stay within 2^57.
-use Rattle.std.proofs.Common.{◌*◌, ◌^◌, ◌≤◌, pos, ◌*ℤ◌, nat_abs, refl, mul-le-mul, arith, rules}
+use Rattle.std.proofs.Common.{◌*◌, ◌^◌, ◌≤◌, pos, ◌*ℤ◌, nat_abs, refl, mul-le-mul, arith}
 use Rattle.codec.proofs.Integers.{abs-mul, fits, back, cast}
 use Rattle.engine.proofs.address.times.Goals as goal
 

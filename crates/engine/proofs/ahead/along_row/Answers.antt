@@ -1,5 +1,4 @@
 -- `ahead::along_row` meets its contract.
-use Rattle.std.proofs.Common.{rules}
 use Rattle.engine.proofs.ahead.along_row.Goals as goal
 
 pub returns-then-through : goal.returns-then-through

@@ -1,5 +1,5 @@
 -- `ahead::in_row` meets its contract.
-use Rattle.std.proofs.Common.{◌≡◌, ◌+◌, true, [], ◌∷◌, set, pos, ◌+ℤ◌, ap, ◌∙◌, arith, w64, to_z, of_z, rules}
+use Rattle.std.proofs.Common.{◌+◌, true, [], ◌∷◌, set, pos, ◌+ℤ◌, ap, ◌∙◌, arith}
 use Rattle.codec.proofs.Integers.{back}
 use Rattle.engine.proofs.ahead.in_row.Goals as goal
 

@@ -1,6 +1,5 @@
 -- `ahead::part_size` meets its contract.
-use Rattle.std.proofs.Common.{sym, ◌∙◌, arith, rules}
-use borrow.Author.Tests.{not-false}
+use Rattle.std.proofs.Common.{sym, ◌∙◌, arith}
 use Rattle.codec.specs.TestLaws.{never}
 use Rattle.engine.proofs.ahead.part_size.Goals as goal
 

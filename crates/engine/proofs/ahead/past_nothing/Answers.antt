@@ -1,5 +1,5 @@
 -- `ahead::past_nothing` meets its contract: the chunk has no lanes, and the walk stands at the next stop.
-use Rattle.std.proofs.Common.{◌≡◌, suc, ◌+◌, true, cond, [], length, get_or, set, sym, refl, ap, ◌∙◌, subst, arith, rules, eq-eqb}
+use Rattle.std.proofs.Common.{◌≡◌, suc, ◌+◌, true, cond, [], length, get_or, set, sym, refl, ap, ◌∙◌, subst, arith, eq-eqb}
 use Rattle.engine.specs.Chunks.{held_in, chunk}
 use Rattle.engine.specs.StopLaws.{chunk-none}
 use Rattle.engine.specs.ComeLaws.{past-nothing}

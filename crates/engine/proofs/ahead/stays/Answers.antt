@@ -1,5 +1,5 @@
 -- `ahead::stays` meets its contract.
-use Rattle.std.proofs.Common.{◌≡◌, ℕ, zero, suc, ◌≤◌, sym, refl, ◌∙◌, arith, rules, ltb-true}
+use Rattle.std.proofs.Common.{◌≡◌, ℕ, zero, suc, ◌≤◌, sym, refl, ◌∙◌, arith, ltb-true}
 use Rattle.codec.specs.TestLaws.{never}
 use Rattle.engine.proofs.ahead.stays.Goals as goal
 

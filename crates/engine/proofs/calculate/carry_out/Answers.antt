@@ -1,5 +1,5 @@
 -- `calculate::carry_out` meets its contract: the lanes read, calculated and written are those of the operands.
-use Rattle.std.proofs.Common.{◌≡◌, ◌*◌, ◌≤◌, Bool, true, false, cond, length, sym, refl, ap, ◌∙◌, subst, ap₂, arith, rules}
+use Rattle.std.proofs.Common.{◌≡◌, ◌*◌, ◌≤◌, Bool, true, false, cond, length, sym, refl, ap, ◌∙◌, subst, ap₂}
 use Rattle.engine.specs.ByteLaws.{Bytewise}
 use Rattle.engine.specs.Lanes.{outcome, outcome_count}
 use Rattle.engine.specs.LaneLaws.{width-range}

@@ -1,5 +1,5 @@
 -- `calculate::check_calculation` meets its contract: each check in turn, on the registers that the running ones stand for.
-use Rattle.std.proofs.Common.{◌≡◌, ◌/◌, ◌≤◌, Bool, true, false, cond, not, ◌&&◌, ◌||◌, eqb, ltb, [], ◌∷◌, length, replicate, sym, refl, ap, ◌∙◌, subst, arith, rules, eqb-true}
+use Rattle.std.proofs.Common.{◌≡◌, ◌/◌, ◌≤◌, Bool, false, cond, not, ◌&&◌, ◌||◌, eqb, ltb, [], ◌∷◌, length, replicate, sym, refl, ap, ◌∙◌, subst, arith, eqb-true}
 use borrow.Author.Tests.{not-false}
 use Rattle.codec.specs.TestLaws.{or-false}
 use Rattle.engine.specs.Checks.{Check, first_of}

@@ -1,5 +1,5 @@
 -- `calculate::write_destination` meets its contract.
-use Rattle.std.proofs.Common.{◌*◌, ◌≤◌, sym, ap, ◌∙◌, subst, rules}
+use Rattle.std.proofs.Common.{◌*◌, ◌≤◌, sym, ap, ◌∙◌, subst}
 use borrow.Author.Tests.{not-true, not-false}
 use Rattle.engine.specs.Memory.{lanes_from}
 use Rattle.engine.specs.Stretches.{stored_at}

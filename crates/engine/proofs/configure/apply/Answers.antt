@@ -1,5 +1,5 @@
 -- `configure::apply` meets its contract: each kind of operation has its own function.
-use Rattle.std.proofs.Common.{sym, refl, ap, ◌∙◌, rules}
+use Rattle.std.proofs.Common.{sym, refl, ap, ◌∙◌}
 use Rattle.codec.specs.Operations.{operation_in_range}
 use Rattle.engine.specs.Checks.{first_of}
 use Rattle.engine.specs.GoodLaws.{target-most}

@@ -1,5 +1,5 @@
 -- `configure::apply_dimension` meets its contract: the refusal is that of the checks, and only where there is none is the register changed.
-use Rattle.std.proofs.Common.{sym, refl, ◌∙◌, rules}
+use Rattle.std.proofs.Common.{sym, refl, ◌∙◌}
 use Rattle.engine.specs.GoodLaws.{dimension-passed}
 use Rattle.engine.proofs.configure.apply_dimension.Goals as goal
 

@@ -1,5 +1,5 @@
 -- `configure::apply_end` meets its contract: the refusal is that of the checks, and only where there is none is the register changed.
-use Rattle.std.proofs.Common.{sym, refl, ◌∙◌, rules}
+use Rattle.std.proofs.Common.{sym, refl, ◌∙◌}
 use Rattle.engine.specs.GoodLaws.{end-accepted}
 use Rattle.engine.proofs.configure.apply_end.Goals as goal
 

@@ -1,5 +1,5 @@
 -- `configure::apply_modifier` meets its contract: the refusal is that of the checks, and only where there is none is the register changed.
-use Rattle.std.proofs.Common.{sym, refl, ◌∙◌, arith, rules}
+use Rattle.std.proofs.Common.{sym, refl, ◌∙◌, arith}
 use Rattle.engine.specs.GoodLaws.{modifier-passed}
 use Rattle.engine.proofs.configure.apply_modifier.Goals as goal
 

@@ -1,5 +1,4 @@
 -- `configure::modified` meets its contract.
-use Rattle.std.proofs.Common.{rules}
 use Rattle.engine.proofs.configure.modified.Goals as goal
 
 pub returns : goal.returns

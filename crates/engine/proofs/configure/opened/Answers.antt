@@ -1,5 +1,4 @@
 -- `configure::opened` meets its contract.
-use Rattle.std.proofs.Common.{rules}
 use Rattle.engine.proofs.configure.opened.Goals as goal
 
 pub returns : goal.returns

@@ -1,5 +1,4 @@
 -- `configure::uncovered` meets its contract: a coupled dimension is missing if it is above the dimensions that there are.
-use Rattle.std.proofs.Common.{rules}
 use Rattle.engine.proofs.configure.uncovered.Goals as goal
 
 pub returns-in-Coupled : goal.returns-in-Coupled

@@ -1,7 +1,7 @@
 -- `configure::why_dimension` meets its contract: the tests are those of the list, in its order.
-use Rattle.std.proofs.Common.{sym, ◌∙◌, rules, le-leb}
+use Rattle.std.proofs.Common.{sym, ◌∙◌, le-leb}
 use Rattle.engine.specs.Checks.{first_of}
-use borrow.Author.Tests.{lt-leb, not-true, not-false}
+use borrow.Author.Tests.{lt-leb}
 use Rattle.engine.proofs.configure.why_dimension.Goals as goal
 
 pub returns-then-not-is_configuring : goal.returns-then-not-is_configuring

@@ -1,6 +1,5 @@
 -- `configure::why_end` meets its contract: the tests are those of the list, in its order; 7 has two.
-use Rattle.std.proofs.Common.{◌≡◌, true, false, eqb, sym, ◌∙◌, rules, eq-eqb, ne_eqb}
-use borrow.Author.Tests.{not-true, not-false}
+use Rattle.std.proofs.Common.{◌≡◌, true, false, eqb, sym, ◌∙◌, eq-eqb, ne_eqb}
 use Rattle.engine.specs.Checks.{first_of}
 use Rattle.engine.specs.Rules.{low_or_high}
 use Rattle.engine.specs.Registers.{is_configuring, shape_of}

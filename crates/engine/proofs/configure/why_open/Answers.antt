@@ -1,5 +1,5 @@
 -- `configure::why_open` meets its contract: the tests are those of the list, in its order.
-use Rattle.std.proofs.Common.{sym, ◌∙◌, rules}
+use Rattle.std.proofs.Common.{sym, ◌∙◌}
 use Rattle.engine.specs.Checks.{first_of}
 use Rattle.engine.proofs.configure.why_open.Goals as goal
 

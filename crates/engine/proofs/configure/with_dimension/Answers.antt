@@ -1,5 +1,5 @@
 -- `configure::with_dimension` meets its contract.
-use Rattle.std.proofs.Common.{◌∙◌, rules}
+use Rattle.std.proofs.Common.{◌∙◌}
 use Rattle.engine.proofs.configure.with_dimension.Goals as goal
 
 pub returns : goal.returns

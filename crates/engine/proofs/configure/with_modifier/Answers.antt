@@ -1,5 +1,5 @@
 -- `configure::with_modifier` meets its contract.
-use Rattle.std.proofs.Common.{◌∙◌, rules}
+use Rattle.std.proofs.Common.{◌∙◌}
 use Rattle.engine.proofs.configure.with_modifier.Goals as goal
 
 pub returns : goal.returns

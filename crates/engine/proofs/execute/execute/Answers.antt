@@ -1,15 +1,15 @@
 -- `execute::execute` meets its contract: between passes what follows gives what the whole run gives, and within one what is left of it.
-use Rattle.std.proofs.Common.{◌≡◌, ℕ, ◌+◌, ◌-◌, ◌<◌, ◌≤◌, cond, eqb, List, [], length, get_or, take, ℤ, sym, refl, ap, ◌∙◌, subst, arith, rules, eqb-true}
-use Rattle.engine.specs.Registers.{is_open, to_come, no_register, reg}
+use Rattle.std.proofs.Common.{◌≡◌, ℕ, ◌+◌, ◌<◌, cond, eqb, List, [], length, get_or, take, ℤ, sym, refl, ap, ◌∙◌, subst, arith, rules, eqb-true}
+use Rattle.engine.specs.Registers.{is_open, no_register}
 use Rattle.engine.specs.CalculationLaws.{Named}
 use Rattle.engine.specs.Rows.{pattern_at}
 use Rattle.codec.specs.declared.operation.Calculation.{Calculation}
 use Rattle.engine.specs.Calculations.{Fit, Cleared}
 use Rattle.engine.specs.Layouts.{no_running, registers_in}
 use Rattle.engine.specs.LayoutLaws.{views-at, patterns-set}
-use Rattle.engine.proofs.PassSteps.{machine_of, Passing, passing, named_here, passing-on, passing-no, Passes, passes-begun, passes_over, passes-no, passes-fewer, passes_on}
+use Rattle.engine.proofs.PassSteps.{Passing, passing, named_here, passing-on, passing-no, Passes, passes-begun, passes_over, passes-no, passes-fewer, passes_on}
 use Rattle.engine.proofs.Clearing.{moved-room}
-use Rattle.engine.proofs.Rounds.{Laid, fit_at, lanes-long, calculated-at, round, refused-so, three-on}
+use Rattle.engine.proofs.Rounds.{fit_at, lanes-long, calculated-at, round, refused-so, three-on}
 use Rattle.engine.specs.declared.run.Verdict.TheVariants.{Done, Refused}
 use Rattle.engine.specs.declared.register.Register.{Register}
 use Rattle.engine.proofs.Lengths.{unmapped}
@@ -123,18 +123,14 @@ check_calculation-o-requires c =
     let m = c in
     let l = m.loop-k in
     let a = m in
-    let f = fits in (
-      ((a.requires.le_vl.0.0, a.requires.le_vl.0.1), (named.first, (named.second, named.destination))),
-      (
-        (l.invariant.1.firsts, (l.invariant.1.seconds, l.invariant.1.thirds)),
-        (
-          (f calculation.first named.first, (f calculation.second named.second, f calculation.destination named.destination)),
-          λ t.
-              let e = sym (eqb-true calculation.first calculation.second t) in
-              (ap (λ i. get_or l.all i no_running) e, (e, ap (λ i. get_or l.indices i []) e)),
-        ),
-      ),
-    )
+    let f = fits in record {
+      le_vl = ((a.requires.le_vl.0.0, a.requires.le_vl.0.1), (named.first, (named.second, named.destination)));
+      xs_len = (l.invariant.1.firsts, (l.invariant.1.seconds, l.invariant.1.thirds));
+      fit = (f calculation.first named.first, (f calculation.second named.second, f calculation.destination named.destination));
+      b_value = λ t.
+          let e = sym (eqb-true calculation.first calculation.second t) in
+          (ap (λ i. get_or l.all i no_running) e, (e, ap (λ i. get_or l.indices i []) e));
+    }
 
 pub rejoined-requires : goal.rejoined-requires
 rejoined-requires c =
@@ -223,19 +219,17 @@ carry_out-e-requires c =
     let l = m.loop-k in
     let k = c.check_calculation-o in
     let g = checked in
-    let e = c.in_default.is in (
-      g.within e,
-      (
+    let e = c.in_default.is in record {
+      within = g.within e;
+      count_bound = (
+        moved-room _ _ _ _ (fits calculation.first named.first) _ _ _ _ _ (g.first e),
         (
-          moved-room _ _ _ _ (fits calculation.first named.first) _ _ _ _ _ (g.first e),
-          (
-            moved-room _ _ _ _ (fits calculation.second named.second) _ _ _ _ _ (g.second e),
-            moved-room _ _ _ _ (fits calculation.destination named.destination) _ _ _ _ _ (g.destination e),
-          ),
+          moved-room _ _ _ _ (fits calculation.second named.second) _ _ _ _ _ (g.second e),
+          moved-room _ _ _ _ (fits calculation.destination named.destination) _ _ _ _ _ (g.destination e),
         ),
-        λ t. ((g.again e t).0, ap (λ i. get_or l.lanes i []) (sym (eqb-true calculation.first calculation.second t))),
-      ),
-    )
+      );
+      y_value = λ t. ((g.again e t).0, ap (λ i. get_or l.lanes i []) (sym (eqb-true calculation.first calculation.second t)));
+    }
 
 pub offset_bounds-all-i-in-loop-k : goal.offset_bounds-all-i-in-loop-k
 offset_bounds-all-i-in-loop-k c =

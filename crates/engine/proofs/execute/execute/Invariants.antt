@@ -1,19 +1,9 @@
 -- `execute::execute` meets its contract: between passes what follows gives what the whole run gives, and within one what is left of it.
-use Rattle.std.proofs.Common.{◌≡◌, ℕ, ◌+◌, ◌-◌, ◌<◌, ◌≤◌, cond, eqb, List, [], length, get_or, take, ℤ, sym, refl, ap, ◌∙◌, subst, arith, rules, eqb-true}
-use Rattle.engine.specs.Registers.{is_open, to_come, no_register, reg}
-use Rattle.engine.specs.CalculationLaws.{Named}
-use Rattle.engine.specs.Rows.{pattern_at}
-use Rattle.codec.specs.declared.operation.Calculation.{Calculation}
-use Rattle.engine.specs.Calculations.{Fit, Cleared}
-use Rattle.engine.specs.Layouts.{no_running, registers_in}
-use Rattle.engine.specs.LayoutLaws.{views-at, patterns-set}
-use Rattle.engine.proofs.PassSteps.{machine_of, Passing, passing, named_here, passing-on, passing-no, Passes, passes-begun, passes_over, passes-no, passes-fewer, passes_on}
-use Rattle.engine.proofs.Clearing.{moved-room}
-use Rattle.engine.proofs.Rounds.{Laid, fit_at, lanes-long, calculated-at, round, refused-so, three-on}
-use Rattle.engine.specs.declared.run.Verdict.TheVariants.{Done, Refused}
-use Rattle.engine.specs.declared.register.Register.{Register}
-use Rattle.engine.proofs.Lengths.{unmapped}
-use Rattle.engine.proofs.BodySteps.{no_step}
+use Rattle.std.proofs.Common.{◌≡◌, ◌-◌, ◌≤◌, length, take}
+use Rattle.engine.specs.Registers.{to_come, reg}
+use Rattle.engine.specs.Layouts.{registers_in}
+use Rattle.engine.proofs.PassSteps.{machine_of, Passing, Passes}
+use Rattle.engine.proofs.Rounds.{Laid}
 use Rattle.engine.proofs.execute.execute.Given as goal
 
 abbrev pub invariant-loop-k : goal.invariant-loop-k

@@ -1,6 +1,5 @@
 -- `fold::first_at` meets its contract: the lanes passed over are not the one that is searched.
-use Rattle.std.proofs.Common.{◌≡◌, ◌+◌, ◌-◌, ◌*◌, ◌≤◌, length, sym, ap, ◌∙◌, arith, rules}
-use Rattle.engine.specs.Memory.{lanes_from}
+use Rattle.std.proofs.Common.{◌≡◌, length, sym, ap, ◌∙◌, arith, rules}
 use Rattle.engine.specs.Lanes.{first_at}
 use Rattle.engine.proofs.LaneCounts.{few-lanes}
 use Rattle.engine.proofs.LaneSteps.{lane_room}

@@ -1,10 +1,7 @@
 -- `fold::first_at` meets its contract: the lanes passed over are not the one that is searched.
-use Rattle.std.proofs.Common.{◌≡◌, ◌+◌, ◌-◌, ◌*◌, ◌≤◌, length, sym, ap, ◌∙◌, arith, rules}
+use Rattle.std.proofs.Common.{◌≡◌, ◌+◌, ◌-◌, ◌*◌, ◌≤◌}
 use Rattle.engine.specs.Memory.{lanes_from}
 use Rattle.engine.specs.Lanes.{first_at}
-use Rattle.engine.proofs.LaneCounts.{few-lanes}
-use Rattle.engine.proofs.LaneSteps.{lane_room}
-use Rattle.engine.proofs.FoldSteps.{whole_row, first_more, first_found, first-nowhere}
 use Rattle.engine.proofs.fold.first_at.Given as goal
 
 abbrev pub invariant-loop-k : goal.invariant-loop-k

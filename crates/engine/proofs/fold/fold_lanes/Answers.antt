@@ -1,5 +1,5 @@
 -- `fold::fold_lanes` meets its contract: each fold is of the lanes taken in turn, or the place of what is left.
-use Rattle.std.proofs.Common.{◌*◌, ◌^◌, ◌≤◌, sym, ap, ◌∙◌, arith, pow_pos, pow_mono, rules}
+use Rattle.std.proofs.Common.{◌*◌, ◌^◌, ◌≤◌, sym, ap, ◌∙◌, arith, pow_pos, pow_mono}
 use mathlib.Core.List.{foldl}
 use Rattle.codec.specs.declared.operation.Action.TheVariants.{Add}
 use Rattle.engine.specs.Lanes.{lane, first_at}

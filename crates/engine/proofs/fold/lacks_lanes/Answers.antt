@@ -1,5 +1,5 @@
 -- `fold::lacks_lanes` meets its contract: only a fold that wants a lane lacks it.
-use Rattle.std.proofs.Common.{sym, ◌∙◌, rules}
+use Rattle.std.proofs.Common.{sym, ◌∙◌}
 use Rattle.engine.proofs.fold.lacks_lanes.Goals as goal
 
 pub returns-then-wants_lanes : goal.returns-then-wants_lanes

@@ -1,5 +1,4 @@
 -- `fold::outcome_count` meets its contract: as many as the source has, or one.
-use Rattle.std.proofs.Common.{rules}
 use Rattle.engine.proofs.fold.outcome_count.Goals as goal
 
 pub returns-in-Each : goal.returns-in-Each

@@ -1,7 +1,5 @@
 -- `fold::taken_through` meets its contract: what is left to take gives what the whole gives.
-use Rattle.std.proofs.Common.{◌≡◌, ◌-◌, ◌*◌, ◌^◌, ◌<◌, ◌≤◌, length, sym, refl, ap, ◌∙◌, arith, rules}
-use mathlib.Core.List.{foldl}
-use Rattle.engine.specs.Memory.{lanes_from}
+use Rattle.std.proofs.Common.{◌≡◌, ◌*◌, length, sym, refl, ap, ◌∙◌, arith, rules}
 use Rattle.engine.specs.Lanes.{lane}
 use Rattle.engine.proofs.LaneCounts.{few-lanes}
 use Rattle.engine.proofs.LaneSteps.{lane_room}

@@ -1,11 +1,8 @@
 -- `fold::taken_through` meets its contract: what is left to take gives what the whole gives.
-use Rattle.std.proofs.Common.{◌≡◌, ◌-◌, ◌*◌, ◌^◌, ◌<◌, ◌≤◌, length, sym, refl, ap, ◌∙◌, arith, rules}
+use Rattle.std.proofs.Common.{◌≡◌, ◌-◌, ◌*◌, ◌^◌, ◌<◌, ◌≤◌}
 use mathlib.Core.List.{foldl}
 use Rattle.engine.specs.Memory.{lanes_from}
 use Rattle.engine.specs.Lanes.{lane}
-use Rattle.engine.proofs.LaneCounts.{few-lanes}
-use Rattle.engine.proofs.LaneSteps.{lane_room}
-use Rattle.engine.proofs.FoldSteps.{foldl-more, foldl-last}
 use Rattle.engine.proofs.fold.taken_through.Given as goal
 
 abbrev pub invariant-loop-k : goal.invariant-loop-k

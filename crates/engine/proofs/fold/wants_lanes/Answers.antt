@@ -1,5 +1,4 @@
 -- `fold::wants_lanes` meets its contract: fold by fold.
-use Rattle.std.proofs.Common.{rules}
 use Rattle.engine.proofs.fold.wants_lanes.Goals as goal
 
 pub returns-in-Sum : goal.returns-in-Sum

@@ -1,7 +1,6 @@
 -- `gain::gains` meets its contract: after k turns both numbers are the gains of the first k modifiers in the row.
-use Rattle.std.proofs.Common.{◌≡◌, suc, ◌+◌, ◌-◌, ◌*◌, ◌<◌, ◌≤◌, true, get_or, drop, sym, ap, ◌∙◌, arith, rules}
+use Rattle.std.proofs.Common.{◌≡◌, suc, ◌+◌, ◌*◌, ◌<◌, ◌≤◌, true, get_or, drop, sym, ap, ◌∙◌, arith}
 use Rattle.codec.specs.declared.operation.Behaviour.TheVariants.{Add, Subtract}
-use borrow.Author.Tests.{not-true, not-false}
 use Rattle.engine.specs.Loops.{same_parameter}
 use Rattle.engine.specs.Good.{RangedModifier}
 use Rattle.engine.specs.Rows.{parameter_in, modifier_in, shape_in}

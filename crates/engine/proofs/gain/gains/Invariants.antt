@@ -1,12 +1,7 @@
 -- `gain::gains` meets its contract: after k turns both numbers are the gains of the first k modifiers in the row.
-use Rattle.std.proofs.Common.{◌≡◌, suc, ◌+◌, ◌-◌, ◌*◌, ◌<◌, ◌≤◌, true, get_or, drop, sym, ap, ◌∙◌, arith, rules}
+use Rattle.std.proofs.Common.{◌≡◌, ◌-◌, ◌*◌, ◌≤◌}
 use Rattle.codec.specs.declared.operation.Behaviour.TheVariants.{Add, Subtract}
-use borrow.Author.Tests.{not-true, not-false}
-use Rattle.engine.specs.Loops.{same_parameter}
-use Rattle.engine.specs.Good.{RangedModifier}
-use Rattle.engine.specs.Rows.{parameter_in, modifier_in, shape_in}
-use Rattle.engine.proofs.GainSteps.{gain-start, reach-small}
-use Rattle.engine.proofs.GainRows.{up_to, row-modifier, away, other, adds, takes}
+use Rattle.engine.proofs.GainRows.{up_to}
 use Rattle.engine.proofs.gain.gains.Given as goal
 
 abbrev pub invariant-loop-k : goal.invariant-loop-k

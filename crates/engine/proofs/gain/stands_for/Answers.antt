@@ -1,5 +1,5 @@
 -- `gain::stands_for` meets its contract: 0 stands for the size, 1 for the offset, anything else for the stride.
-use Rattle.std.proofs.Common.{◌≡◌, ℕ, zero, suc, eqb, ltb, sym, ap, ◌∙◌, arith, rules, le-ltb, lt-ltb, eq-eqb, ne_eqb}
+use Rattle.std.proofs.Common.{◌≡◌, ℕ, zero, suc, eqb, ltb, sym, ap, ◌∙◌, arith, le-ltb, lt-ltb, eq-eqb, ne_eqb}
 use Rattle.codec.specs.declared.operation.Parameter.TheVariants.{Size, Offset, Stride}
 use Rattle.engine.specs.Loops.{same_parameter}
 use Rattle.engine.specs.Rows.{parameter_in}

@@ -1,7 +1,5 @@
 -- `height::differ` meets its contract: the places above d are equal.
-use Rattle.std.proofs.Common.{◌≡◌, ℕ, zero, suc, ◌-◌, ◌<◌, ◌≤◌, List, [], ◌∷◌, length, get_or, drop, sym, ◌∙◌, ap₂, sub-one, arith, drop_of_length-le, drop-cons, rules}
-use Rattle.engine.specs.FlagLaws.{differ-from, differ-at}
-use Rattle.engine.specs.Chunks.{differ}
+use Rattle.std.proofs.Common.{◌≡◌, ◌≤◌, length, drop}
 use Rattle.engine.proofs.height.differ.Given as goal
 
 abbrev pub invariant-loop-d : goal.invariant-loop-d

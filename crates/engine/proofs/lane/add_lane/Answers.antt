@@ -1,5 +1,5 @@
 -- `lane::add_lane` meets its contract: the mask cuts to the width, and the wrap at 64 bits before it changes nothing.
-use Rattle.std.proofs.Common.{◌+◌, ◌*◌, ◌%◌, ◌^◌, arith, rules}
+use Rattle.std.proofs.Common.{◌+◌, ◌*◌, ◌%◌, ◌^◌, arith}
 use lib.Bits.{and_mask}
 use Rattle.engine.proofs.Cuts.{cut}
 use Rattle.engine.proofs.lane.add_lane.Goals as goal

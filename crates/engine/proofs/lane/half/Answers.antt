@@ -1,5 +1,5 @@
 -- `lane::half` meets its contract: a one, shifted up to the top bit.
-use Rattle.std.proofs.Common.{◌-◌, ◌*◌, ◌^◌, ◌∙◌, one-mul, arith, shl_exact, rules}
+use Rattle.std.proofs.Common.{◌-◌, ◌*◌, ◌^◌, ◌∙◌, one-mul, arith, shl_exact}
 use Rattle.engine.proofs.lane.half.Goals as goal
 
 pub returns : goal.returns

@@ -1,5 +1,5 @@
 -- `lane::lane` meets its contract: each arm is the action's own equation, and every action gives a lane.
-use Rattle.std.proofs.Common.{◌≡◌, ℕ, ◌*◌, ◌^◌, ◌<◌, rules}
+use Rattle.std.proofs.Common.{◌≡◌, ℕ, ◌*◌, ◌^◌, ◌<◌}
 use Rattle.codec.specs.declared.operation.Action.{Action}
 use Rattle.engine.specs.Lanes.{lane}
 use Rattle.engine.specs.LaneLaws.{lane-small}

@@ -1,5 +1,5 @@
 -- `lane::larger` meets its contract: the test is that of the raised lanes.
-use Rattle.std.proofs.Common.{sym, rules, le-ltb, lt-ltb}
+use Rattle.std.proofs.Common.{sym, le-ltb, lt-ltb}
 use Rattle.engine.proofs.lane.larger.Goals as goal
 
 pub returns-then-x-y : goal.returns-then-x-y

@@ -1,5 +1,5 @@
 -- `lane::raise` meets its contract: the sum with half the range.
-use Rattle.std.proofs.Common.{◌+◌, ◌*◌, ◌%◌, ◌^◌, ap, ◌∙◌, rules}
+use Rattle.std.proofs.Common.{◌+◌, ◌*◌, ◌%◌, ◌^◌, ap, ◌∙◌}
 use Rattle.engine.proofs.lane.raise.Goals as goal
 
 pub returns : goal.returns

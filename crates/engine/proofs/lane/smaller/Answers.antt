@@ -1,5 +1,5 @@
 -- `lane::smaller` meets its contract: the test is that of the raised lanes.
-use Rattle.std.proofs.Common.{sym, rules, le-ltb, lt-ltb}
+use Rattle.std.proofs.Common.{sym, le-ltb, lt-ltb}
 use Rattle.engine.proofs.lane.smaller.Goals as goal
 
 pub returns-then-y-x : goal.returns-then-y-x

@@ -1,5 +1,5 @@
 -- `lane::sub_lane` meets its contract: what the subtrahend added to gives the lane, cut to the width, does so at the width.
-use Rattle.std.proofs.Common.{◌*◌, arith, rules}
+use Rattle.std.proofs.Common.{◌*◌, arith}
 use lib.Bits.{and_mask}
 use Rattle.engine.proofs.Cuts.{less}
 use Rattle.engine.proofs.lane.sub_lane.Goals as goal

@@ -1,7 +1,7 @@
 -- `layout::lay_out` meets its contract: after k turns the first k registers are laid out.
-use Rattle.std.proofs.Common.{◌-◌, ◌≤◌, get_or, refl, arith, rules}
+use Rattle.std.proofs.Common.{get_or, refl, arith}
 use Rattle.engine.specs.Registers.{no_register}
-use Rattle.engine.proofs.LayoutSteps.{LaidTo, same-pattern, laid_more, laid-all, laid_same}
+use Rattle.engine.proofs.LayoutSteps.{same-pattern, laid_more, laid-all, laid_same}
 use Rattle.engine.proofs.layout.lay_out.Goals as goal
 
 pub loop-k-init : goal.loop-k-init

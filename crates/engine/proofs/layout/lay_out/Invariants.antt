@@ -1,7 +1,6 @@
 -- `layout::lay_out` meets its contract: after k turns the first k registers are laid out.
-use Rattle.std.proofs.Common.{◌-◌, ◌≤◌, get_or, refl, arith, rules}
-use Rattle.engine.specs.Registers.{no_register}
-use Rattle.engine.proofs.LayoutSteps.{LaidTo, same-pattern, laid_more, laid-all, laid_same}
+use Rattle.std.proofs.Common.{◌-◌, ◌≤◌}
+use Rattle.engine.proofs.LayoutSteps.{LaidTo}
 use Rattle.engine.proofs.layout.lay_out.Given as goal
 
 abbrev pub invariant-loop-k : goal.invariant-loop-k

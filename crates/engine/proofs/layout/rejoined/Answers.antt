@@ -1,7 +1,7 @@
 -- `layout::rejoined` meets its contract: after k turns the first k registers are joined again, and the others are as they were.
-use Rattle.std.proofs.Common.{◌-◌, ◌≤◌, refl, arith, rules}
+use Rattle.std.proofs.Common.{refl, arith, rules}
 use Rattle.engine.proofs.Lengths.{unmapped}
-use Rattle.engine.proofs.LayoutSteps.{JoinedTo, joined-more, joined-all}
+use Rattle.engine.proofs.LayoutSteps.{joined-more, joined-all}
 use Rattle.engine.proofs.layout.rejoined.Goals as goal
 
 pub loop-k-init : goal.loop-k-init

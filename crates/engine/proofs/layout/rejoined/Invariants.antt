@@ -1,7 +1,6 @@
 -- `layout::rejoined` meets its contract: after k turns the first k registers are joined again, and the others are as they were.
-use Rattle.std.proofs.Common.{◌-◌, ◌≤◌, refl, arith, rules}
-use Rattle.engine.proofs.Lengths.{unmapped}
-use Rattle.engine.proofs.LayoutSteps.{JoinedTo, joined-more, joined-all}
+use Rattle.std.proofs.Common.{◌-◌, ◌≤◌}
+use Rattle.engine.proofs.LayoutSteps.{JoinedTo}
 use Rattle.engine.proofs.layout.rejoined.Given as goal
 
 abbrev pub invariant-loop-k : goal.invariant-loop-k

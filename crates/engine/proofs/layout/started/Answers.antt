@@ -1,5 +1,5 @@
 -- `layout::started` meets its contract: an open register remembers what is reckoned at its stop, another one nothing.
-use Rattle.std.proofs.Common.{◌≡◌, ℕ, ◌≤◌, not, [], get_or, take, sym, refl, ap, ◌∙◌, subst, arith, rules}
+use Rattle.std.proofs.Common.{◌≡◌, ℕ, ◌≤◌, not, [], get_or, take, sym, refl, ap, ◌∙◌, subst, arith}
 use Rattle.engine.specs.Chunks.{stops, nothing_at}
 use Rattle.engine.specs.Registers.{shape_of, index_of}
 use Rattle.engine.specs.Rows.{pattern_in}

@@ -1,5 +1,5 @@
 -- `leave::leave_row` meets its contract: the search finds the next stop, or that there is none.
-use Rattle.std.proofs.Common.{◌≡◌, suc, true, false, ltb, length, sym, refl, ap, ◌∙◌, arith, rules, ltb-false, ltb-true}
+use Rattle.std.proofs.Common.{◌≡◌, suc, true, false, ltb, length, sym, refl, ap, ◌∙◌, arith, ltb-false, ltb-true}
 use borrow.Author.Tests.{not-true, not-false}
 use Rattle.codec.specs.TestLaws.{never}
 use Rattle.engine.specs.Chunks.{stops}

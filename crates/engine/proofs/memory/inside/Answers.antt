@@ -1,5 +1,5 @@
 -- `memory::inside` meets its contract: below 0 is outside; else the place and the width are what the definition tests.
-use Rattle.std.proofs.Common.{◌≡◌, true, to_z-of_z, w64, to_z, of_z, rules}
+use Rattle.std.proofs.Common.{◌≡◌, true, to_z-of_z, w64, to_z, of_z}
 use lib.Signed.{non_neg}
 use Rattle.engine.proofs.PlaceSteps.{below-zero, not-below, inside-place, outside_below}
 use Rattle.engine.proofs.memory.inside.Goals as goal

@@ -1,5 +1,5 @@
 -- `memory::load` meets its contract: at each width by the function for it.
-use Rattle.std.proofs.Common.{◌≡◌, sym, ◌∙◌, rules}
+use Rattle.std.proofs.Common.{◌≡◌, sym, ◌∙◌}
 use Rattle.engine.proofs.ByteSteps.{one-loaded, one_byte}
 use Rattle.engine.proofs.memory.load.Goals as goal
 

@@ -1,5 +1,5 @@
 -- `memory::load2` meets its contract: two bytes are a number and 256 times a number.
-use Rattle.std.proofs.Common.{◌≡◌, ◌+◌, sym, refl, ◌∙◌, arith, rules}
+use Rattle.std.proofs.Common.{◌≡◌, ◌+◌, sym, refl, ◌∙◌, arith}
 use Rattle.engine.specs.Memory.{value_at}
 use Rattle.engine.proofs.ByteSteps.{one-loaded, value-join}
 use Rattle.engine.proofs.memory.load2.Goals as goal

@@ -1,6 +1,6 @@
 -- `memory::load4` meets its contract: two halves of two bytes.
 use Rattle.engine.proofs.ByteSteps.{value-join}
-use Rattle.std.proofs.Common.{arith, rules}
+use Rattle.std.proofs.Common.{arith}
 use Rattle.engine.proofs.memory.load4.Goals as goal
 
 pub returns : goal.returns

@@ -1,7 +1,6 @@
 -- `memory::load_bytes` meets its contract: at byte k, counted down, the number is that of the bytes from k on.
-use Rattle.std.proofs.Common.{◌≡◌, ◌+◌, ◌-◌, ◌*◌, ◌^◌, ◌<◌, ◌≤◌, sym, ◌∙◌, add-zero, arith, rules}
+use Rattle.std.proofs.Common.{◌≡◌, ◌-◌, sym, ◌∙◌, add-zero, arith}
 use native.Mathlib.Nat.{sub-zero}
-use Rattle.engine.specs.Memory.{value_at}
 use Rattle.engine.proofs.ByteSteps.{byte-loaded, none-loaded, room, grown}
 use Rattle.engine.proofs.memory.load_bytes.Goals as goal
 

@@ -1,5 +1,4 @@
 -- `memory::store` meets its contract: at each width by the function for it.
-use Rattle.std.proofs.Common.{rules}
 use Rattle.engine.proofs.memory.store.Goals as goal
 
 pub returns-then-width-eq1 : goal.returns-then-width-eq1

@@ -1,6 +1,5 @@
 -- `memory::store2` meets its contract: two halves of one byte.
 use Rattle.engine.proofs.ByteSteps.{stored-join}
-use Rattle.std.proofs.Common.{rules}
 use Rattle.engine.proofs.memory.store2.Goals as goal
 
 pub returns : goal.returns

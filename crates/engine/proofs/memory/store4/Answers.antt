@@ -1,6 +1,5 @@
 -- `memory::store4` meets its contract: two halves of two bytes.
 use Rattle.engine.proofs.ByteSteps.{stored-join}
-use Rattle.std.proofs.Common.{rules}
 use Rattle.engine.proofs.memory.store4.Goals as goal
 
 pub returns : goal.returns

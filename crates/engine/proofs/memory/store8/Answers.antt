@@ -1,6 +1,5 @@
 -- `memory::store8` meets its contract: two halves of four bytes.
 use Rattle.engine.proofs.ByteSteps.{stored-join}
-use Rattle.std.proofs.Common.{rules}
 use Rattle.engine.proofs.memory.store8.Goals as goal
 
 pub returns : goal.returns

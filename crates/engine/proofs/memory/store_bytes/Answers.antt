@@ -1,8 +1,6 @@
 -- `memory::store_bytes` meets its contract: what is left to store, stored behind the bytes that were, gives the same memory throughout.
-use Rattle.std.proofs.Common.{◌≡◌, ◌+◌, ◌-◌, ◌≤◌, length, sym, refl, ◌∙◌, add-zero, arith, length-set, rules}
+use Rattle.std.proofs.Common.{sym, refl, ◌∙◌, add-zero, arith, length-set}
 use native.Mathlib.Nat.{sub-zero}
-use lib.Seq.{sets}
-use Rattle.engine.specs.Memory.{little_endian}
 use Rattle.engine.proofs.ByteSteps.{byte-stored, none-to-store}
 use Rattle.engine.proofs.memory.store_bytes.Goals as goal
 

@@ -1,5 +1,5 @@
 -- `operand::after_read` meets its contract.
-use Rattle.std.proofs.Common.{ap, ◌∙◌, rules}
+use Rattle.std.proofs.Common.{ap, ◌∙◌}
 use borrow.Author.Tests.{not-true, not-false}
 use Rattle.engine.specs.Runnings.{filled_with}
 use Rattle.engine.proofs.operand.after_read.Goals as goal

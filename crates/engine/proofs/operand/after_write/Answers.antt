@@ -1,6 +1,5 @@
 -- `operand::after_write` meets its contract.
 use borrow.Author.Tests.{not-true, not-false}
-use Rattle.std.proofs.Common.{rules}
 use Rattle.engine.proofs.operand.after_write.Goals as goal
 
 pub returns-then-not-o : goal.returns-then-not-o

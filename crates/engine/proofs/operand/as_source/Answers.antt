@@ -1,6 +1,5 @@
 -- `operand::as_source` meets its contract.
-use Rattle.std.proofs.Common.{◌≡◌, true, sym, ◌∙◌, subst, rules}
-use borrow.Author.Tests.{not-true, not-false}
+use Rattle.std.proofs.Common.{◌≡◌, true, sym, ◌∙◌, subst}
 use Rattle.engine.specs.Registers.{is_open}
 use Rattle.engine.specs.Rows.{pattern_in}
 use Rattle.engine.specs.Operands.{Taken}

@@ -1,5 +1,5 @@
 -- `operand::outside` meets its contract.
-use Rattle.std.proofs.Common.{sym, ◌∙◌, rules}
+use Rattle.std.proofs.Common.{sym, ◌∙◌}
 use borrow.Author.Tests.{not-true, not-false}
 use Rattle.engine.proofs.Blames.{blames-none, blames-inside, blames-lane}
 use Rattle.engine.proofs.operand.outside.Goals as goal

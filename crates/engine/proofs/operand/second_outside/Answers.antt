@@ -1,5 +1,4 @@
 -- `operand::second_outside` meets its contract.
-use Rattle.std.proofs.Common.{rules}
 use Rattle.engine.proofs.operand.second_outside.Goals as goal
 
 pub returns-then-same : goal.returns-then-same

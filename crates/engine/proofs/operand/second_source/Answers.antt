@@ -1,5 +1,5 @@
 -- `operand::second_source` meets its contract.
-use Rattle.std.proofs.Common.{sym, refl, ◌∙◌, rules}
+use Rattle.std.proofs.Common.{sym, refl, ◌∙◌}
 use Rattle.codec.specs.TestLaws.{never}
 use Rattle.engine.proofs.operand.second_source.Goals as goal
 

@@ -1,5 +1,5 @@
 -- `outline::element_of` meets its contract: what is kept of the register's stream says whether it was ended, and its loops are walked.
-use Rattle.std.proofs.Common.{sym, ◌∙◌, rules}
+use Rattle.std.proofs.Common.{sym, ◌∙◌}
 use borrow.Author.Tests.{not-true, not-false}
 use Rattle.engine.specs.Outlines.{located_in}
 use Rattle.engine.specs.OutlineLaws.{element-stream, element-unended}

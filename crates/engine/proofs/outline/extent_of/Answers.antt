@@ -1,6 +1,5 @@
 -- `outline::extent_of` meets its contract: the walk stands at the element of a position that goes up by one, until there is none after it.
-use Rattle.std.proofs.Common.{◌≡◌, ℕ, suc, ◌-◌, ◌<◌, ◌≤◌, true, List, [], length, get_or, sym, refl, ap, ◌∙◌, subst, add-one, arith, rules, ltb-false}
-use borrow.Author.Tests.{not-true, not-false}
+use Rattle.std.proofs.Common.{◌≡◌, ℕ, suc, ◌<◌, ◌≤◌, true, List, [], length, get_or, sym, refl, ap, ◌∙◌, subst, add-one, arith, ltb-false}
 use Rattle.engine.specs.Loops.{elements}
 use Rattle.engine.specs.Addresses.{address}
 use Rattle.engine.specs.Good.{RangedPattern, Accepted}

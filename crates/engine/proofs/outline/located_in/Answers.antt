@@ -1,5 +1,5 @@
 -- `outline::located_in` meets its contract: the walk to a position arrives at the stop there, if there is one.
-use Rattle.std.proofs.Common.{◌≡◌, true, sym, refl, ap, ◌∙◌, subst, arith, rules, ltb-false}
+use Rattle.std.proofs.Common.{◌≡◌, true, sym, refl, ap, ◌∙◌, subst, arith, ltb-false}
 use borrow.Author.Tests.{not-true, not-false}
 use Rattle.engine.specs.Addresses.{address}
 use Rattle.engine.specs.Good.{RangedPattern, Accepted}

@@ -1,5 +1,5 @@
 -- `outline::outline_of` meets its contract: what is kept of the register's stream says whether it was ended, and its loops are walked.
-use Rattle.std.proofs.Common.{sym, ap, ◌∙◌, rules}
+use Rattle.std.proofs.Common.{sym, ap, ◌∙◌}
 use borrow.Author.Tests.{not-true, not-false}
 use Rattle.engine.specs.Outlines.{extent_of}
 use Rattle.engine.specs.OutlineLaws.{outline-stream, outline-unended}

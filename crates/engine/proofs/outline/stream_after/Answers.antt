@@ -1,5 +1,5 @@
 -- `outline::stream_after` meets its contract: the registers that a sheet's operations leave are good, so the loops of an ended stream can be walked.
-use Rattle.std.proofs.Common.{◌≡◌, ℕ, ◌<◌, ◌≤◌, Bool, true, false, ◌||◌, List, sym, refl, ap, ◌∙◌, subst, arith, rules}
+use Rattle.std.proofs.Common.{◌≡◌, ℕ, ◌<◌, ◌≤◌, Bool, true, false, ◌||◌, List, sym, refl, ap, ◌∙◌, subst, arith}
 use lib.ListN.{get_or-eq_default}
 use Rattle.codec.specs.NumberLaws.{AreBytes}
 use Rattle.codec.specs.TestLaws.{never}

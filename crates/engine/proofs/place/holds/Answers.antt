@@ -1,5 +1,5 @@
 -- `place::holds` meets its contract: whether the stop is an element depends on the dimensions that are not looked at yet.
-use Rattle.std.proofs.Common.{◌≡◌, ℕ, suc, ◌-◌, ◌<◌, ◌≤◌, Bool, true, false, ◌&&◌, ltb, List, length, get_or, take, drop, sym, refl, ap, ◌∙◌, add-one, arith, drop_of_length-le, length-take-le, drop-cons, get_or-take, rules, le-ltb, lt-ltb}
+use Rattle.std.proofs.Common.{◌≡◌, ℕ, suc, ◌<◌, ◌≤◌, true, false, ◌&&◌, ltb, List, length, get_or, take, drop, sym, refl, ap, ◌∙◌, add-one, arith, drop_of_length-le, length-take-le, drop-cons, get_or-take, le-ltb, lt-ltb}
 use Rattle.engine.specs.Loops.{size_at}
 use Rattle.engine.specs.Chunks.{is_element}
 use Rattle.engine.specs.Registers.{index_of}

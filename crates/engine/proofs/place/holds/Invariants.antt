@@ -1,10 +1,8 @@
 -- `place::holds` meets its contract: whether the stop is an element depends on the dimensions that are not looked at yet.
-use Rattle.std.proofs.Common.{◌≡◌, ℕ, suc, ◌-◌, ◌<◌, ◌≤◌, Bool, true, false, ◌&&◌, ltb, List, length, get_or, take, drop, sym, refl, ap, ◌∙◌, add-one, arith, drop_of_length-le, length-take-le, drop-cons, get_or-take, rules, le-ltb, lt-ltb}
+use Rattle.std.proofs.Common.{◌≡◌, ℕ, ◌-◌, ◌≤◌, Bool, List, take, drop}
 use Rattle.engine.specs.Loops.{size_at}
 use Rattle.engine.specs.Chunks.{is_element}
-use Rattle.engine.specs.Registers.{index_of}
 use Rattle.engine.specs.Rows.{shape_in}
-use Rattle.engine.specs.IndexLaws.{index-length, size-index}
 use Rattle.engine.specs.declared.stream.Shape.{Shape}
 use Rattle.engine.proofs.place.holds.Given as goal
 

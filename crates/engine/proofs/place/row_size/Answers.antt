@@ -1,5 +1,4 @@
 -- `place::row_size` meets its contract.
-use Rattle.std.proofs.Common.{rules}
 use Rattle.engine.proofs.place.row_size.Goals as goal
 
 pub returns : goal.returns

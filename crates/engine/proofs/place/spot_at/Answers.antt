@@ -1,5 +1,5 @@
 -- `place::spot_at` meets its contract: part by part.
-use Rattle.std.proofs.Common.{◌≡◌, ℕ, Bool, true, false, cond, not, take, drop, refl, ap, ◌∙◌, rules}
+use Rattle.std.proofs.Common.{◌≡◌, ℕ, Bool, true, false, cond, not, take, drop, refl, ap, ◌∙◌}
 use Rattle.engine.specs.Loops.{size_at}
 use Rattle.engine.specs.Chunks.{is_element}
 use Rattle.engine.specs.Addresses.{in_bytes}

@@ -1,5 +1,5 @@
 -- `plan::ended` meets its contract: the search from the start says whether there is a stop.
-use Rattle.std.proofs.Common.{◌+◌, true, false, sym, ◌∙◌, subst, add-one, rules, ltb-false, ltb-true}
+use Rattle.std.proofs.Common.{◌+◌, true, false, sym, ◌∙◌, subst, add-one, ltb-false, ltb-true}
 use Rattle.codec.specs.TestLaws.{never}
 use Rattle.engine.specs.Registers.{shape_of}
 use Rattle.engine.specs.Good.{Accepted}

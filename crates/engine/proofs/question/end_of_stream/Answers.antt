@@ -1,8 +1,7 @@
 -- `question::end_of_stream` meets its contract: the tests are those of the list, in its order.
 use Rattle.engine.specs.Checks.{first_of}
 use Rattle.engine.specs.Questions.{ask_end}
-use Rattle.std.proofs.Common.{sym, ◌∙◌, rules, le-ltb, lt-ltb}
-use borrow.Author.Tests.{not-true, not-false}
+use Rattle.std.proofs.Common.{sym, ◌∙◌, le-ltb, lt-ltb}
 use Rattle.engine.proofs.question.end_of_stream.Goals as goal
 
 pub returns-then-register-gt31 : goal.returns-then-register-gt31

@@ -1,8 +1,7 @@
 -- `question::flag` meets its contract: the tests are those of the list, in its order.
 use Rattle.engine.specs.Checks.{first_of}
 use Rattle.engine.specs.Questions.{ask_flag}
-use Rattle.std.proofs.Common.{sym, ◌∙◌, rules, le-ltb, lt-ltb, eq-eqb, ne_eqb}
-use borrow.Author.Tests.{not-true, not-false}
+use Rattle.std.proofs.Common.{sym, ◌∙◌, le-ltb, lt-ltb, eq-eqb, ne_eqb}
 use Rattle.engine.proofs.question.flag.Goals as goal
 
 pub returns-then-register-gt31 : goal.returns-then-register-gt31

@@ -1,5 +1,4 @@
 -- `register::fresh` meets its contract.
-use Rattle.std.proofs.Common.{rules}
 use Rattle.engine.proofs.register.fresh.Goals as goal
 
 pub returns : goal.returns

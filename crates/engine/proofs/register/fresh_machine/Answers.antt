@@ -1,5 +1,4 @@
 -- `register::fresh_machine` meets its contract.
-use Rattle.std.proofs.Common.{rules}
 use Rattle.engine.proofs.register.fresh_machine.Goals as goal
 
 pub returns : goal.returns

@@ -1,5 +1,4 @@
 -- `register::no_pattern` meets its contract.
-use Rattle.std.proofs.Common.{rules}
 use Rattle.engine.proofs.register.no_pattern.Goals as goal
 
 pub returns : goal.returns

@@ -1,5 +1,5 @@
 -- `row::coupling_code` meets its contract: the numbers stand for the variant that was matched.
-use Rattle.std.proofs.Common.{sym, rules}
+use Rattle.std.proofs.Common.{sym}
 use Rattle.engine.proofs.row.coupling_code.Goals as goal
 
 pub returns-in-Coupled : goal.returns-in-Coupled

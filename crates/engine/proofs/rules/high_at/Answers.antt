@@ -1,5 +1,5 @@
 -- `rules::high_at` meets its contract: the high in natural numbers is the size and what adding modifiers add.
-use Rattle.std.proofs.Common.{suc, drop, arith, rules}
+use Rattle.std.proofs.Common.{suc, drop, arith}
 use Rattle.engine.specs.Gains.{high-nat}
 use Rattle.engine.specs.Rows.{shape_in}
 use Rattle.engine.specs.RowLaws.{size-at}

@@ -1,5 +1,5 @@
 -- `rules::low_holds` meets its contract: the low is a difference of natural numbers.
-use Rattle.std.proofs.Common.{suc, leb, get_or, drop, sym, ap, ◌∙◌, rules}
+use Rattle.std.proofs.Common.{suc, leb, get_or, drop, sym, ap, ◌∙◌}
 use lib.Signed.{non_neg}
 use Rattle.codec.specs.declared.operation.Parameter.TheVariants.{Size}
 use Rattle.codec.specs.declared.operation.Behaviour.TheVariants.{Subtract}

@@ -1,11 +1,10 @@
 -- `rules::low_or_high` meets its contract: what is refused from a dimension on is refused, and the last indices kept are those by the highs.
-use Rattle.std.proofs.Common.{◌≡◌, suc, ◌-◌, true, false, get_or, drop, sym, ap, ◌∙◌, subst, arith, rules}
+use Rattle.std.proofs.Common.{◌≡◌, suc, ◌-◌, true, drop, sym, ap, ◌∙◌, subst, arith}
 use lib.Signed.{non_neg}
 use Rattle.engine.specs.Rules.{low_at, low_or_high, low_or_high_from}
 use Rattle.engine.specs.Good.{Ranged}
 use Rattle.engine.specs.Rows.{shape_in}
-use Rattle.engine.proofs.Lasts.{Walked, walked_start, walked_next, none-outside, walk-low, walk-high, walk-on}
-use borrow.Author.Tests.{not-true, not-false}
+use Rattle.engine.proofs.Lasts.{walked_start, walked_next, none-outside, walk-low, walk-high, walk-on}
 use Rattle.engine.proofs.rules.low_or_high.Goals as goal
 
 pub loop-d-init : goal.loop-d-init

@@ -1,9 +1,8 @@
 -- `rules::product_over` meets its contract: the product over the dimensions from d on is at most that over all, and the last indices kept are those by the highs.
-use Rattle.std.proofs.Common.{◌≡◌, ◌-◌, ◌*◌, ◌≤◌, max, ltb, get_or, sym, ap, ◌∙◌, subst, mul-le-mul, arith, rules, le-ltb}
-use Rattle.engine.specs.Rules.{low_or_high, highs, highs_of, product}
-use Rattle.engine.specs.Good.{Ranged}
+use Rattle.std.proofs.Common.{◌≡◌, ◌-◌, ◌≤◌, get_or}
+use Rattle.engine.specs.Rules.{highs, product}
 use Rattle.engine.specs.Rows.{shape_in}
-use Rattle.engine.proofs.Lasts.{Walked, walked_start, walked_next, product-start, product-refused, walk-product, walk-most}
+use Rattle.engine.proofs.Lasts.{Walked}
 use Rattle.engine.proofs.rules.product_over.Given as goal
 
 abbrev pub invariant-loop-d : goal.invariant-loop-d

@@ -1,6 +1,5 @@
 -- `run::run` meets its contract: 15 first, then what follows from how the operations ended.
-use Rattle.std.proofs.Common.{length, sym, ◌∙◌, rules}
-use borrow.Author.Tests.{not-true, not-false}
+use Rattle.std.proofs.Common.{length, sym, ◌∙◌}
 use Rattle.engine.proofs.WholeSteps.{fresh-is-good, not-allowed, allowed-length, answer, ready}
 use Rattle.engine.proofs.run.run.Goals as goal
 

@@ -1,5 +1,5 @@
 -- `run::set_up` meets its contract.
-use Rattle.std.proofs.Common.{sym, ap, ◌∙◌, rules}
+use Rattle.std.proofs.Common.{sym, ap, ◌∙◌}
 use Rattle.engine.specs.Sheets.{operations_from}
 use Rattle.engine.specs.Bodies.{body_of, ending_is, verdict_of, settled_of}
 use Rattle.engine.proofs.WholeSteps.{fresh-is-good}

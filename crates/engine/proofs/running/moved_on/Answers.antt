@@ -1,5 +1,5 @@
 -- `running::moved_on` meets its contract.
-use Rattle.std.proofs.Common.{◌+◌, ap₂, rules}
+use Rattle.std.proofs.Common.{◌+◌, ap₂}
 use Rattle.engine.proofs.running.moved_on.Goals as goal
 
 pub returns : goal.returns

@@ -1,5 +1,5 @@
 -- `shape::some_far_moved` meets its contract: no modifier passed has too large a displacement.
-use Rattle.std.proofs.Common.{◌≡◌, ℕ, ◌-◌, ◌<◌, ◌≤◌, false, length, get_or, sym, arith, rules, below_more, le-ltb, lt-ltb}
+use Rattle.std.proofs.Common.{◌≡◌, false, length, get_or, sym, arith, rules, below_more, le-ltb, lt-ltb}
 use Rattle.engine.specs.Registers.{no_modifier}
 use Rattle.engine.specs.ShapeCheck.{far_moved}
 use Rattle.engine.specs.ShapeLaws.{first-at, first-none}

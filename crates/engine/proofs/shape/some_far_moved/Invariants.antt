@@ -1,9 +1,7 @@
 -- `shape::some_far_moved` meets its contract: no modifier passed has too large a displacement.
-use Rattle.std.proofs.Common.{◌≡◌, ℕ, ◌-◌, ◌<◌, ◌≤◌, false, length, get_or, sym, arith, rules, below_more, le-ltb, lt-ltb}
+use Rattle.std.proofs.Common.{◌≡◌, ℕ, ◌-◌, ◌<◌, ◌≤◌, false, get_or}
 use Rattle.engine.specs.Registers.{no_modifier}
 use Rattle.engine.specs.ShapeCheck.{far_moved}
-use Rattle.engine.specs.ShapeLaws.{first-at, first-none}
-use Rattle.engine.proofs.Lengths.{unmapped}
 use Rattle.engine.proofs.shape.some_far_moved.Given as goal
 
 abbrev pub invariant-loop-k : goal.invariant-loop-k

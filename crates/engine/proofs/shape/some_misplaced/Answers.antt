@@ -1,5 +1,5 @@
 -- `shape::some_misplaced` meets its contract: no modifier passed is out of place.
-use Rattle.std.proofs.Common.{◌≡◌, ℕ, ◌-◌, ◌<◌, ◌≤◌, false, length, get_or, sym, ◌∙◌, arith, rules, below_more}
+use Rattle.std.proofs.Common.{◌≡◌, false, length, get_or, sym, ◌∙◌, arith, rules, below_more}
 use Rattle.engine.specs.Registers.{no_modifier}
 use Rattle.engine.specs.ShapeCheck.{misplaced_in}
 use Rattle.engine.specs.ShapeLaws.{first-at, first-none}

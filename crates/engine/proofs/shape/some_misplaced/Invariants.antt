@@ -1,9 +1,7 @@
 -- `shape::some_misplaced` meets its contract: no modifier passed is out of place.
-use Rattle.std.proofs.Common.{◌≡◌, ℕ, ◌-◌, ◌<◌, ◌≤◌, false, length, get_or, sym, ◌∙◌, arith, rules, below_more}
+use Rattle.std.proofs.Common.{◌≡◌, ℕ, ◌-◌, ◌<◌, ◌≤◌, false, get_or}
 use Rattle.engine.specs.Registers.{no_modifier}
 use Rattle.engine.specs.ShapeCheck.{misplaced_in}
-use Rattle.engine.specs.ShapeLaws.{first-at, first-none}
-use Rattle.engine.proofs.Lengths.{unmapped}
 use Rattle.engine.proofs.shape.some_misplaced.Given as goal
 
 abbrev pub invariant-loop-k : goal.invariant-loop-k

@@ -1,5 +1,5 @@
 -- `shape::some_too_large` meets its contract: no size passed is too large.
-use Rattle.std.proofs.Common.{◌≡◌, ℕ, ◌-◌, ◌<◌, ◌≤◌, false, length, get_or, sym, arith, rules, below_more, le-ltb, lt-ltb}
+use Rattle.std.proofs.Common.{◌≡◌, false, length, get_or, sym, arith, rules, below_more, le-ltb, lt-ltb}
 use Rattle.engine.specs.ShapeCheck.{too_large}
 use Rattle.engine.specs.ShapeLaws.{some_at, some-none}
 use Rattle.engine.proofs.shape.some_too_large.Goals as goal

@@ -1,7 +1,6 @@
 -- `shape::some_too_large` meets its contract: no size passed is too large.
-use Rattle.std.proofs.Common.{◌≡◌, ℕ, ◌-◌, ◌<◌, ◌≤◌, false, length, get_or, sym, arith, rules, below_more, le-ltb, lt-ltb}
+use Rattle.std.proofs.Common.{◌≡◌, ℕ, ◌-◌, ◌<◌, ◌≤◌, false, get_or}
 use Rattle.engine.specs.ShapeCheck.{too_large}
-use Rattle.engine.specs.ShapeLaws.{some_at, some-none}
 use Rattle.engine.proofs.shape.some_too_large.Given as goal
 
 abbrev pub invariant-loop-k : goal.invariant-loop-k

@@ -1,6 +1,5 @@
 -- `sheet::is_loop_register` meets its contract.
-use Rattle.std.proofs.Common.{sym, ◌∙◌, rules}
-use borrow.Author.Tests.{not-true, not-false}
+use Rattle.std.proofs.Common.{sym, ◌∙◌}
 use Rattle.engine.proofs.sheet.is_loop_register.Goals as goal
 
 pub returns-then-not-has_stream : goal.returns-then-not-has_stream

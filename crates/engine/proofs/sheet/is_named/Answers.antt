@@ -1,6 +1,5 @@
 -- `sheet::is_named` meets its contract: what is left to look at decides.
-use Rattle.std.proofs.Common.{◌≡◌, ◌-◌, ◌≤◌, length, take, drop, sym, refl, ◌∙◌, arith, rules}
-use Rattle.engine.specs.Sheets.{names}
+use Rattle.std.proofs.Common.{sym, refl, ◌∙◌, arith, rules}
 use Rattle.engine.proofs.Lengths.{unmapped}
 use Rattle.engine.proofs.BodySteps.{named-first, named-second, not_named, named_none}
 use Rattle.engine.proofs.sheet.is_named.Goals as goal

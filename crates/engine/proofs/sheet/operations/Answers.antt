@@ -1,5 +1,5 @@
 -- `sheet::operations` meets its contract: what is left of the sheet stays what there was to do.
-use Rattle.std.proofs.Common.{◌≡◌, ℕ, ◌-◌, ◌<◌, ◌≤◌, true, sym, refl, ap, ◌∙◌, subst, arith, rules}
+use Rattle.std.proofs.Common.{◌≡◌, ◌-◌, ◌<◌, true, sym, refl, ap, ◌∙◌, subst, arith}
 use Rattle.codec.specs.Operations.{operation_in_range}
 use Rattle.codec.specs.OperationLaws.{operation-read}
 use Rattle.engine.specs.Registers.{put}

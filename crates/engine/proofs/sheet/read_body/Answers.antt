@@ -1,5 +1,5 @@
 -- `sheet::read_body` meets its contract: what was read, and the rest of the body, are the whole body.
-use Rattle.std.proofs.Common.{◌≡◌, ◌-◌, ◌≤◌, length, take, sym, ap, ◌∙◌, arith, length-set, rules}
+use Rattle.std.proofs.Common.{◌≡◌, ◌-◌, sym, ap, ◌∙◌, arith, length-set, rules}
 use Rattle.engine.specs.Sheets.{body_at}
 use Rattle.engine.proofs.Lengths.{unmapped}
 use Rattle.engine.proofs.BodySteps.{behind, body_more, body-stops, body-whole}

@@ -1,5 +1,5 @@
 -- `sheet::run_ending` meets its contract: the body, then bytes after it, then 16.
-use Rattle.std.proofs.Common.{◌≡◌, sym, ap, ◌∙◌, rules, le-ltb, lt-ltb}
+use Rattle.std.proofs.Common.{◌≡◌, sym, ap, ◌∙◌, le-ltb, lt-ltb}
 use Rattle.engine.specs.Sheets.{ending_of, body_at}
 use Rattle.engine.specs.Bodies.{body_of, calculations_of}
 use Rattle.engine.specs.declared.sheet.Reading.{Reading}

@@ -1,5 +1,4 @@
 -- `sheet::turn_of` meets its contract.
-use Rattle.std.proofs.Common.{rules}
 use Rattle.engine.proofs.sheet.turn_of.Goals as goal
 
 pub returns-in-Run : goal.returns-in-Run

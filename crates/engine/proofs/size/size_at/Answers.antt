@@ -1,5 +1,5 @@
 -- `size::size_at` meets its contract: the size in natural numbers is what the modifiers' gains give, and the configured one where there is no modifier.
-use Rattle.std.proofs.Common.{suc, drop, sym, ◌∙◌, arith, rules}
+use Rattle.std.proofs.Common.{suc, drop, sym, ◌∙◌, arith}
 use Rattle.engine.specs.Gains.{size-nat}
 use Rattle.engine.specs.Rows.{shape_in}
 use Rattle.engine.specs.RowLaws.{size-at}

@@ -1,5 +1,5 @@
 -- `states::open_load` meets its contract.
-use Rattle.std.proofs.Common.{sym, ◌∙◌, rules}
+use Rattle.std.proofs.Common.{sym, ◌∙◌}
 use Rattle.engine.proofs.states.open_load.Goals as goal
 
 pub returns-then-is_open : goal.returns-then-is_open

@@ -1,5 +1,5 @@
 -- `states::open_store` meets its contract.
-use Rattle.std.proofs.Common.{sym, ◌∙◌, rules}
+use Rattle.std.proofs.Common.{sym, ◌∙◌}
 use Rattle.engine.proofs.states.open_store.Goals as goal
 
 pub returns-then-is_open : goal.returns-then-is_open

@@ -1,5 +1,5 @@
 -- `states::why_source` meets its contract: the tests are those of the list, in its order.
-use Rattle.std.proofs.Common.{sym, ◌∙◌, rules}
+use Rattle.std.proofs.Common.{sym, ◌∙◌}
 use Rattle.engine.specs.Checks.{first_of}
 use Rattle.engine.proofs.states.why_source.Goals as goal
 

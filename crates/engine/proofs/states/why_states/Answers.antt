@@ -1,5 +1,5 @@
 -- `states::why_states` meets its contract: the first list that refuses decides.
-use Rattle.std.proofs.Common.{◌++◌, sym, ◌∙◌, rules}
+use Rattle.std.proofs.Common.{◌++◌, sym, ◌∙◌}
 use Rattle.engine.specs.CheckLaws.{first_stops, first_goes}
 use Rattle.engine.specs.Calculate.{source_checks, destination_checks}
 use Rattle.engine.specs.Runnings.{bare}

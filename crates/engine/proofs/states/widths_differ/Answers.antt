@@ -1,5 +1,5 @@
 -- `states::widths_differ` meets its contract.
-use Rattle.std.proofs.Common.{sym, ◌∙◌, rules, eq-eqb, ne_eqb}
+use Rattle.std.proofs.Common.{sym, ◌∙◌, eq-eqb, ne_eqb}
 use Rattle.engine.proofs.states.widths_differ.Goals as goal
 
 pub returns-then-a-b : goal.returns-then-a-b

@@ -1,5 +1,5 @@
 -- `transfer::adjacent` meets its contract: two numbers with the same bits are the same.
-use Rattle.std.proofs.Common.{sym, ap, ◌∙◌, arith, to_z-of_z, w64, to_z, of_z, rules, eqb-true}
+use Rattle.std.proofs.Common.{sym, ap, ◌∙◌, arith, to_z-of_z, w64, to_z, of_z, eqb-true}
 use Rattle.codec.proofs.Integers.{cast}
 use Rattle.engine.proofs.transfer.adjacent.Goals as goal
 

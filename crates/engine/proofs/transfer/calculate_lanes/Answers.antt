@@ -1,5 +1,5 @@
 -- `transfer::calculate_lanes` meets its contract: lane by lane, or a single lane packed.
-use Rattle.std.proofs.Common.{◌≡◌, sym, ap, ◌∙◌, arith, rules}
+use Rattle.std.proofs.Common.{sym, ap, ◌∙◌, arith}
 use lib.Seq.{sets}
 use Rattle.engine.specs.Memory.{little_endian}
 use Rattle.engine.specs.PackedLaws.{zeros}

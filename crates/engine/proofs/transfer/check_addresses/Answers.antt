@@ -1,6 +1,5 @@
 -- `transfer::check_addresses` meets its contract: after k turns the first k parts lie inside.
-use Rattle.std.proofs.Common.{◌≡◌, ◌+◌, ◌-◌, ◌*◌, ◌^◌, ◌<◌, ◌≤◌, true, [], length, get_or, take, nat_abs, sym, ap, ◌∙◌, arith, length-append}
-use borrow.Author.Tests.{not-true, not-false}
+use Rattle.std.proofs.Common.{◌≡◌, ◌+◌, ◌^◌, ◌<◌, ◌≤◌, [], length, get_or, take, nat_abs, sym, ap, ◌∙◌, arith, length-append}
 use Rattle.engine.specs.Stretches.{progression, addresses_in, joined_in, Part, all_within, lane_without}
 use Rattle.engine.proofs.PartSteps.{part-there, parts-there, part-is, parts_none, parts-none-long, parts_more, length_part, part-within, part-outside, part-lane, check-inside, check-outside}
 use Rattle.engine.proofs.transfer.check_addresses.Goals as goal
@@ -72,7 +71,7 @@ returns-then-not-row_within c =
     sym (c.lane_outside-lane.ensures.0 ∙ ap (lane_without a.len a.width) (row)) in
     check-outside a.len a.width (joined_in (take a.m a.parts.now)) (l.passed + c.lane_outside-lane.result)
     (part-outside a.len a.width a.parts.now l.k a.m (omega arith) there o)
-    (part-lane a.len a.width a.parts.now l.k a.m (omega arith) there o ∙ omega (arith, lane, l.invariant.2))
+    (part-lane a.len a.width a.parts.now l.k a.m (omega arith) there l.invariant.1 o ∙ omega (arith, lane, l.invariant.2))
 
 pub overflow_add-passed : goal.overflow_add-passed
 overflow_add-passed c =

@@ -1,8 +1,8 @@
 -- `transfer::combine_lanes` meets its contract: a copy is the first source's bytes; otherwise, after k turns the lanes are the first k.
-use Rattle.std.proofs.Common.{◌≡◌, ◌-◌, ◌*◌, ◌≤◌, length, take, sym, refl, ap, ◌∙◌, arith, rules}
+use Rattle.std.proofs.Common.{◌≡◌, ◌*◌, length, sym, refl, ap, ◌∙◌, arith, rules}
 use lib.Seq.{length-sets}
-use Rattle.engine.specs.Memory.{value_at, lanes_from, packed}
-use Rattle.engine.specs.Lanes.{lane, lanewise}
+use Rattle.engine.specs.Memory.{value_at}
+use Rattle.engine.specs.Lanes.{lane}
 use Rattle.engine.proofs.LaneCounts.{few-lanes, many}
 use Rattle.engine.proofs.LaneSteps.{lane_room, packed_none}
 use Rattle.engine.proofs.StretchSteps.{combined-more, all-combined, copied}

@@ -1,7 +1,5 @@
 -- `transfer::copy` meets its contract: after k turns the first k bytes are copied.
-use Rattle.std.proofs.Common.{◌≡◌, ◌+◌, ◌-◌, ◌<◌, ◌≤◌, length, get_or, take, drop, set, refl, ap, ◌∙◌, arith, length-set, rules}
-use lib.Seq.{sets}
-use Rattle.engine.specs.ByteLaws.{Bytewise}
+use Rattle.std.proofs.Common.{◌≡◌, ◌+◌, get_or, set, refl, ap, ◌∙◌, arith, length-set}
 use Rattle.engine.proofs.StretchSteps.{copied_more}
 use Rattle.engine.proofs.transfer.copy.Goals as goal
 

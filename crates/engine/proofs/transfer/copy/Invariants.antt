@@ -1,8 +1,7 @@
 -- `transfer::copy` meets its contract: after k turns the first k bytes are copied.
-use Rattle.std.proofs.Common.{◌≡◌, ◌+◌, ◌-◌, ◌<◌, ◌≤◌, length, get_or, take, drop, set, refl, ap, ◌∙◌, arith, length-set, rules}
+use Rattle.std.proofs.Common.{◌≡◌, ◌-◌, ◌<◌, ◌≤◌, length, take, drop}
 use lib.Seq.{sets}
 use Rattle.engine.specs.ByteLaws.{Bytewise}
-use Rattle.engine.proofs.StretchSteps.{copied_more}
 use Rattle.engine.proofs.transfer.copy.Given as goal
 
 abbrev pub invariant-loop-k : goal.invariant-loop-k

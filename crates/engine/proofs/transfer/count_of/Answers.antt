@@ -1,5 +1,5 @@
 -- `transfer::count_of` meets its contract: a count is not below 0.
-use Rattle.std.proofs.Common.{◌≡◌, [], get_or, pos, nat_abs, ap, arith, rules}
+use Rattle.std.proofs.Common.{◌≡◌, [], get_or, pos, nat_abs, ap, arith}
 use lib.Signed.{non_neg}
 use Rattle.codec.proofs.Integers.{back}
 use Rattle.engine.specs.Loops.{natural}

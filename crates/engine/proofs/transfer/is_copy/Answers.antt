@@ -1,6 +1,5 @@
 -- `transfer::is_copy` meets its contract: no other action is told to be a copy.
 use Rattle.codec.specs.TestLaws.{never}
-use Rattle.std.proofs.Common.{rules}
 use Rattle.engine.proofs.transfer.is_copy.Goals as goal
 
 pub returns-in-Add : goal.returns-in-Add

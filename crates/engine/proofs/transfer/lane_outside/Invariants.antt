@@ -1,8 +1,6 @@
 -- `transfer::lane_outside` meets its contract: after k turns the first k elements lie inside.
-use Rattle.std.proofs.Common.{◌≡◌, ◌+◌, ◌-◌, ◌*◌, ◌^◌, ◌≤◌, ◌+ℤ◌, nat_abs, sym, ap, ◌∙◌, arith, rules}
-use borrow.Author.Tests.{not-true, not-false}
+use Rattle.std.proofs.Common.{◌≡◌, ◌+◌, ◌-◌, ◌*◌, ◌^◌, ◌≤◌, nat_abs}
 use Rattle.engine.specs.Stretches.{progression, lane_without}
-use Rattle.engine.proofs.StretchSteps.{lane-none, lane_here, lane-on}
 use Rattle.engine.proofs.transfer.lane_outside.Given as goal
 
 abbrev pub invariant-loop-k : goal.invariant-loop-k

@@ -1,5 +1,5 @@
 -- `transfer::look_at` meets its contract: an element that is read tells of all.
-use Rattle.std.proofs.Common.{◌≡◌, ◌≤◌, length, get_or, arith, rules}
+use Rattle.std.proofs.Common.{◌≡◌, ◌≤◌, length, get_or, arith}
 use lib.ListN.{get_or-eq_default}
 use Rattle.engine.proofs.transfer.look_at.Goals as goal
 

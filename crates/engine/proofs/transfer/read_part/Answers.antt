@@ -1,11 +1,10 @@
 -- `transfer::read_part` meets its contract: elements side by side are their bytes; of others, after k turns the lanes are those at the first k addresses.
-use Rattle.std.proofs.Common.{◌≡◌, ◌+◌, ◌-◌, ◌*◌, ◌^◌, ◌≤◌, true, length, get_or, take, drop, pos, ◌+ℤ◌, ◌*ℤ◌, nat_abs, sym, refl, ap, ◌∙◌, arith, rules}
+use Rattle.std.proofs.Common.{◌≡◌, ◌+◌, ◌*◌, ◌≤◌, true, length, get_or, take, drop, pos, ◌+ℤ◌, sym, refl, ap, ◌∙◌, arith, rules}
 use lib.Signed.{non_neg}
 use lib.Seq.{sets}
 use Rattle.engine.specs.Loops.{natural}
 use Rattle.engine.specs.Addresses.{inside}
-use Rattle.engine.specs.Memory.{joined}
-use Rattle.engine.specs.Stretches.{progression, fetched_at}
+use Rattle.engine.specs.Stretches.{progression}
 use Rattle.engine.proofs.LaneCounts.{few-lanes, many}
 use Rattle.engine.proofs.StretchSteps.{length-progression, row_at, further-none, further-more, within-at, row-place, row_room, row-bytes}
 use Rattle.engine.proofs.PartSteps.{lane-room-at, lane-read, part-read, part-none-read, no-lane}

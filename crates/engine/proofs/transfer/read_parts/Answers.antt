@@ -1,5 +1,5 @@
 -- `transfer::read_parts` meets its contract: after k turns the lanes are those at the addresses of the first k parts.
-use Rattle.std.proofs.Common.{◌≡◌, ◌+◌, ◌-◌, ◌*◌, ◌<◌, ◌≤◌, [], length, get_or, take, sym, ap, ◌∙◌, arith}
+use Rattle.std.proofs.Common.{◌≡◌, ◌+◌, ◌*◌, ◌<◌, ◌≤◌, [], length, get_or, take, sym, ap, ◌∙◌, arith}
 use Rattle.engine.specs.Memory.{packed}
 use Rattle.engine.specs.Stretches.{progression, addresses_in, joined_in, Part, all_within, fetched_at}
 use Rattle.engine.proofs.LaneCounts.{few-lanes}

@@ -1,10 +1,7 @@
 -- `transfer::read_parts` meets its contract: after k turns the lanes are those at the addresses of the first k parts.
-use Rattle.std.proofs.Common.{◌≡◌, ◌+◌, ◌-◌, ◌*◌, ◌<◌, ◌≤◌, [], length, get_or, take, sym, ap, ◌∙◌, arith}
+use Rattle.std.proofs.Common.{◌≡◌, ◌-◌, ◌≤◌, length, take}
 use Rattle.engine.specs.Memory.{packed}
-use Rattle.engine.specs.Stretches.{progression, addresses_in, joined_in, Part, all_within, fetched_at}
-use Rattle.engine.proofs.LaneCounts.{few-lanes}
-use Rattle.engine.proofs.StretchSteps.{length-progression}
-use Rattle.engine.proofs.PartSteps.{part-there, parts-there, part-is, lanes-room, part-inside, parts-count, parts-read, none-packed, no-parts}
+use Rattle.engine.specs.Stretches.{joined_in, fetched_at}
 use Rattle.engine.proofs.transfer.read_parts.Given as goal
 
 abbrev pub invariant-loop-k : goal.invariant-loop-k

@@ -1,6 +1,5 @@
 -- `transfer::row_within` meets its contract: a row lies inside if its first and its last element do.
-use Rattle.std.proofs.Common.{◌+ℤ◌, sym, ap, ◌∙◌, arith, rules}
-use borrow.Author.Tests.{not-true, not-false}
+use Rattle.std.proofs.Common.{◌+ℤ◌, sym, ap, ◌∙◌, arith}
 use Rattle.engine.specs.Addresses.{inside}
 use Rattle.engine.proofs.StretchSteps.{row_inside, row-outside, row-none}
 use Rattle.engine.proofs.transfer.row_within.Goals as goal

@@ -1,5 +1,5 @@
 -- `transfer::write_lane` meets its contract.
-use Rattle.std.proofs.Common.{◌≡◌, ◌+◌, ◌≤◌, true, length, ap, ◌∙◌, arith, rules}
+use Rattle.std.proofs.Common.{◌≡◌, ◌+◌, ◌≤◌, true, length, ap, ◌∙◌, arith}
 use lib.Signed.{non_neg}
 use Rattle.engine.specs.Loops.{natural}
 use lib.Seq.{sets}

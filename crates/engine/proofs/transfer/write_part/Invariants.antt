@@ -1,14 +1,7 @@
 -- `transfer::write_part` meets its contract: elements side by side take the lanes' bytes; of others, after k turns the first k lanes are written.
-use Rattle.std.proofs.Common.{◌≡◌, ◌+◌, ◌-◌, ◌*◌, ◌^◌, ◌≤◌, true, [], length, get_or, take, drop, pos, ◌+ℤ◌, ◌*ℤ◌, nat_abs, sym, refl, ap, ◌∙◌, add-mul, arith, rules}
-use lib.Signed.{non_neg}
-use lib.Seq.{sets, length-sets}
-use Rattle.engine.specs.Loops.{natural}
-use Rattle.engine.specs.Addresses.{inside}
+use Rattle.std.proofs.Common.{◌≡◌, ◌+◌, ◌-◌, ◌*◌, ◌^◌, ◌≤◌, length, take, pos, ◌+ℤ◌, ◌*ℤ◌, nat_abs}
 use Rattle.engine.specs.Memory.{lanes_from}
 use Rattle.engine.specs.Stretches.{progression, stored_at}
-use Rattle.engine.proofs.LaneCounts.{few-lanes, many}
-use Rattle.engine.proofs.StretchSteps.{none_written, length-progression, row_at, further-none, further-more, within-at, stored-none, stored-further, all-stored-further, row-place, row_room, row-written-from}
-use Rattle.engine.proofs.PartSteps.{lane-room-at}
 use Rattle.engine.proofs.transfer.write_part.Given as goal
 
 abbrev pub invariant-loop-k : goal.invariant-loop-k

@@ -1,5 +1,5 @@
 -- `transfer::write_parts` meets its contract: after k turns the lanes of the first k parts are written.
-use Rattle.std.proofs.Common.{◌≡◌, ◌+◌, ◌-◌, ◌*◌, ◌<◌, ◌≤◌, true, [], length, get_or, take, sym, refl, ap, ◌∙◌, arith, rules}
+use Rattle.std.proofs.Common.{◌≡◌, ◌+◌, ◌*◌, ◌<◌, ◌≤◌, true, [], length, get_or, take, sym, refl, ap, ◌∙◌, arith}
 use Rattle.engine.specs.Memory.{lanes_from}
 use Rattle.engine.specs.Stretches.{progression, addresses_in, joined_in, Part, all_within, stored_at}
 use Rattle.engine.proofs.LaneCounts.{few-lanes}

@@ -1,10 +1,7 @@
 -- `transfer::write_parts` meets its contract: after k turns the lanes of the first k parts are written.
-use Rattle.std.proofs.Common.{◌≡◌, ◌+◌, ◌-◌, ◌*◌, ◌<◌, ◌≤◌, true, [], length, get_or, take, sym, refl, ap, ◌∙◌, arith, rules}
+use Rattle.std.proofs.Common.{◌≡◌, ◌-◌, ◌≤◌, length, take}
 use Rattle.engine.specs.Memory.{lanes_from}
-use Rattle.engine.specs.Stretches.{progression, addresses_in, joined_in, Part, all_within, stored_at}
-use Rattle.engine.proofs.LaneCounts.{few-lanes}
-use Rattle.engine.proofs.StretchSteps.{length-progression}
-use Rattle.engine.proofs.PartSteps.{part-there, parts-there, part-is, lanes-room, part-inside, parts-count, parts-written, length-stored, none-stored, no-parts}
+use Rattle.engine.specs.Stretches.{joined_in, stored_at}
 use Rattle.engine.proofs.transfer.write_parts.Given as goal
 
 abbrev pub invariant-loop-k : goal.invariant-loop-k

@@ -1,5 +1,5 @@
 -- `walk::cleared` meets its contract: so far the first k are zeros, and the others as they were.
-use Rattle.std.proofs.Common.{◌≡◌, ℕ, zero, suc, ◌+◌, ◌-◌, ◌<◌, ◌≤◌, List, ◌∷◌, ◌++◌, length, drop, set, replicate, sym, refl, ap, ◌∙◌, add-one, arith, length-set, drop-cons, rules}
+use Rattle.std.proofs.Common.{◌≡◌, ℕ, zero, suc, ◌+◌, ◌<◌, List, ◌∷◌, ◌++◌, length, drop, set, replicate, sym, refl, ap, ◌∙◌, add-one, arith, length-set, drop-cons, rules}
 use lib.ListN.{length-replicate}
 use lib.Seq.{set_at}
 use Rattle.engine.proofs.walk.cleared.Goals as goal

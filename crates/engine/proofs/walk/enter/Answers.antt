@@ -1,5 +1,5 @@
 -- `walk::enter` meets its contract: from zeros on, the search finds the first element of the pass; if there is none, the pass stops there.
-use Rattle.std.proofs.Common.{◌≡◌, ℕ, suc, ◌+◌, ◌-◌, ◌≤◌, true, cond, not, List, ◌++◌, length, get_or, drop, replicate, sym, refl, ap, ◌∙◌, subst, arith, length-append, length-drop, drop_at, rules}
+use Rattle.std.proofs.Common.{◌≡◌, ℕ, suc, ◌+◌, ◌-◌, ◌≤◌, true, cond, not, List, ◌++◌, length, get_or, drop, replicate, sym, refl, ap, ◌∙◌, subst, arith, length-append, length-drop, drop_at}
 use lib.ListN.{length-replicate}
 use Rattle.engine.specs.Loops.{size_at}
 use Rattle.engine.specs.Chunks.{pass_stops}

@@ -1,5 +1,5 @@
 -- `walk::first` meets its contract: where the outermost dimension is about to run index 0, all elements are to come.
-use Rattle.std.proofs.Common.{suc, ◌-◌, get_or, sym, refl, ◌∙◌, arith, rules}
+use Rattle.std.proofs.Common.{suc, ◌-◌, get_or, sym, refl, ◌∙◌, arith}
 use Rattle.engine.specs.Rows.{shape_in}
 use Rattle.engine.specs.WalkLaws.{get_d-zeros}
 use Rattle.engine.specs.IndexLaws.{walk_start}

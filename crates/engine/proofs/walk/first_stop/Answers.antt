@@ -1,5 +1,5 @@
 -- `walk::first_stop` meets its contract: uncoupled, the first element; coupled, all passes are to come where all indices are 0.
-use Rattle.std.proofs.Common.{suc, ◌-◌, true, map, get_or, drop, replicate, refl, ap, ◌∙◌, arith, rules}
+use Rattle.std.proofs.Common.{suc, ◌-◌, true, map, get_or, drop, replicate, refl, ap, ◌∙◌, arith}
 use Rattle.engine.specs.Loops.{size_at, join}
 use Rattle.engine.specs.Chunks.{pass_stops}
 use Rattle.engine.specs.Rows.{shape_in}

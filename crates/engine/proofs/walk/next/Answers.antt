@@ -1,5 +1,5 @@
 -- `walk::next` meets its contract: with the innermost index one further, what comes after the element is to come.
-use Rattle.std.proofs.Common.{◌≡◌, ℕ, suc, ◌+◌, ◌≤◌, [], length, get_or, sym, ap, ◌∙◌, arith, length-set, drop-set-lt, rules}
+use Rattle.std.proofs.Common.{◌≡◌, ℕ, suc, ◌+◌, ◌≤◌, [], length, get_or, sym, ap, ◌∙◌, arith, length-set, drop-set-lt}
 use Rattle.engine.specs.Loops.{size_at, elements}
 use Rattle.engine.specs.Rows.{shape_in}
 use Rattle.engine.specs.Walk.{after}

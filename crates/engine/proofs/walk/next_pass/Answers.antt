@@ -1,5 +1,5 @@
 -- `walk::next_pass` meets its contract: with the index of the dimension outside one further, the passes after this one are to come.
-use Rattle.std.proofs.Common.{◌≡◌, suc, ◌+◌, ◌≤◌, map, get_or, drop, refl, ap, arith, length-set, get_or-drop, drop-set-lt, rules, le-ltb}
+use Rattle.std.proofs.Common.{◌≡◌, suc, ◌+◌, ◌≤◌, map, get_or, drop, refl, ap, arith, length-set, get_or-drop, drop-set-lt, le-ltb}
 use Rattle.engine.specs.Loops.{size_at, join}
 use Rattle.engine.specs.Chunks.{pass_stops}
 use Rattle.engine.specs.Rows.{shape_in}

@@ -1,5 +1,5 @@
 -- `walk::next_stop` meets its contract: after a stop come the others of its pass, then those of the later passes.
-use Rattle.std.proofs.Common.{◌≡◌, ℕ, suc, ◌+◌, ◌<◌, ◌≤◌, Bool, true, false, cond, List, [], ◌∷◌, ◌++◌, map, length, get_or, drop, sym, refl, ap, ◌∙◌, subst, arith, length-set, drop-set-lt, rules}
+use Rattle.std.proofs.Common.{◌≡◌, ℕ, suc, ◌+◌, ◌<◌, ◌≤◌, Bool, true, false, cond, List, [], ◌∷◌, ◌++◌, map, length, get_or, drop, sym, refl, ap, ◌∙◌, subst, arith, length-set, drop-set-lt}
 use Rattle.engine.specs.Loops.{size_at, join, elements}
 use Rattle.engine.specs.Chunks.{pass_stops, stops}
 use Rattle.engine.specs.Registers.{index_of}

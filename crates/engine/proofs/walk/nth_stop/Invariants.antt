@@ -1,9 +1,7 @@
 -- `walk::nth_stop` meets its contract: the walk arrives at a position that goes up by one, until it is the one asked for or there is none.
-use Rattle.std.proofs.Common.{◌≡◌, ◌-◌, ◌≤◌, true, refl, subst, add-one, arith}
-use borrow.Author.Tests.{not-true, not-false}
+use Rattle.std.proofs.Common.{◌-◌, ◌≤◌}
 use Rattle.engine.specs.Rows.{shape_in}
 use Rattle.engine.specs.Walk.{Arrives}
-use Rattle.engine.proofs.Found.{no-further, stop-below, stop-here}
 use Rattle.engine.proofs.walk.nth_stop.Given as goal
 
 abbrev pub invariant-loop-k : goal.invariant-loop-k

@@ -1,14 +1,10 @@
 -- `walk::seek` meets its contract: what is to come stays the same at each turn, until an element or the end is met.
-use Rattle.std.proofs.Common.{◌≡◌, ℕ, suc, ◌+◌, ◌-◌, ◌<◌, ◌≤◌, List, length, get_or, drop, set, replicate, refl, ap, ◌∙◌, subst, arith, length-set, get_or-drop, drop-set-lt}
+use Rattle.std.proofs.Common.{◌≡◌, ℕ, suc, ◌<◌, ◌≤◌, List, length, get_or, drop}
 use Rattle.engine.specs.Loops.{size_at}
-use Rattle.codec.specs.TestLaws.{never}
 use Rattle.engine.specs.Rows.{shape_in}
-use Rattle.engine.specs.BoundLaws.{Under, under-small}
+use Rattle.engine.specs.BoundLaws.{Under}
 use Rattle.engine.specs.Walk.{at, cost_at}
-use Rattle.engine.specs.WalkLaws.{at-end, at-found}
-use Rattle.engine.specs.declared.stream.Shape.{Shape}
-use Rattle.engine.proofs.Turns.{goes_down, goes-up, cost-goes-down, cost-goes-up, all_small, under-found, under-down, under_up}
-use Rattle.engine.proofs.Remembered.{Remembered, none_yet, still, put-by}
+use Rattle.engine.proofs.Remembered.{Remembered}
 use Rattle.engine.proofs.walk.seek.Given as goal
 
 -- where the search stands: with dimension d about to run the index that it has, the same is to come as at the start

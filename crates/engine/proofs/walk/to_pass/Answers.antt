@@ -1,5 +1,5 @@
 -- `walk::to_pass` meets its contract: the search over the dimensions outside finds the first pass to come, if any, and this is entered.
-use Rattle.std.proofs.Common.{drop, arith, rules}
+use Rattle.std.proofs.Common.{drop, arith}
 use Rattle.engine.specs.Rows.{shape_in}
 use Rattle.engine.proofs.Found.{to-first, to_none}
 use Rattle.engine.proofs.walk.to_pass.Goals as goal

@@ -3,7 +3,6 @@ use Prim.Native.Nat.{ℕ, zero, suc}
 use mathlib.Core.Path.{◌≡◌, refl}
 use Rattle.codec.specs.Headers.{width_coded}
 use Rattle.codec.specs.declared.header.Width.TheVariants.{D}
-use borrow.Author.Rules.{rules}
 use Rattle.codec.proofs.header.Width.coded.Goals as goal
 
 wide-code : (n : ℕ) → (n ≡ 0 → ⊥) → (n ≡ 1 → ⊥) → (n ≡ 2 → ⊥) → D ≡ width_coded n

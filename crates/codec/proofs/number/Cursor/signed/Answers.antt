@@ -1,4 +1,3 @@
-use borrow.Author.Rules.{rules}
 use mir.Facts.{to_z-of_z}
 use mir.Syntax.{w64}
 use mathlib.Core.Path.{sym, ◌∙◌}

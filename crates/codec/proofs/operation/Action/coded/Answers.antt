@@ -3,7 +3,6 @@ use Prim.Native.Nat.{ℕ, zero, suc}
 use mathlib.Core.Path.{◌≡◌, refl}
 use Rattle.codec.specs.Operations.{action_coded}
 use Rattle.codec.specs.declared.operation.Action.TheVariants.{Larger}
-use borrow.Author.Rules.{rules}
 use Rattle.codec.proofs.operation.Action.coded.Goals as goal
 
 last : (n : ℕ) → (n ≡ 0 → ⊥) → (n ≡ 1 → ⊥) → (n ≡ 2 → ⊥) → (n ≡ 3 → ⊥) → (n ≡ 4 → ⊥) → (n ≡ 5 → ⊥) → (n ≡ 6 → ⊥) → Larger ≡ action_coded n

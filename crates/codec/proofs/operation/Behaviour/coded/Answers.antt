@@ -3,7 +3,6 @@ use Prim.Native.Nat.{ℕ, zero, suc}
 use mathlib.Core.Path.{◌≡◌, refl}
 use Rattle.codec.specs.Operations.{behaviour_coded}
 use Rattle.codec.specs.declared.operation.Behaviour.TheVariants.{Subtract}
-use borrow.Author.Rules.{rules}
 use Rattle.codec.proofs.operation.Behaviour.coded.Goals as goal
 
 last : (n : ℕ) → (n ≡ 0 → ⊥) → Subtract ≡ behaviour_coded n

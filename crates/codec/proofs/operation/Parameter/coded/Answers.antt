@@ -3,7 +3,6 @@ use Prim.Native.Nat.{ℕ, zero, suc}
 use mathlib.Core.Path.{◌≡◌, refl}
 use Rattle.codec.specs.Operations.{parameter_coded}
 use Rattle.codec.specs.declared.operation.Parameter.TheVariants.{Stride}
-use borrow.Author.Rules.{rules}
 use Rattle.codec.proofs.operation.Parameter.coded.Goals as goal
 
 last : (n : ℕ) → (n ≡ 0 → ⊥) → (n ≡ 1 → ⊥) → Stride ≡ parameter_coded n

@@ -1,6 +1,5 @@
 -- `Task::coded` meets its contract: lane by lane up to 7, over all lanes above.
 use borrow.Author.Tests.{le-leb, lt-leb}
-use borrow.Author.Rules.{rules}
 use Rattle.codec.proofs.operation.Task.coded.Goals as goal
 
 pub returns-then-code-le7 : goal.returns-then-code-le7

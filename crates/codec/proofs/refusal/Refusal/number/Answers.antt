@@ -1,4 +1,3 @@
-use borrow.Author.Rules.{rules}
 use Rattle.codec.proofs.refusal.Refusal.number.Goals as goal
 
 pub returns-in-BadNumber : goal.returns-in-BadNumber

@@ -1,4 +1,3 @@
-use borrow.Author.Rules.{rules}
 use Rattle.codec.proofs.refusal.Role.number.Goals as goal
 
 pub returns-in-First : goal.returns-in-First

@@ -1,0 +1,12 @@
+-- `rules::keep_terms` meets its contract: what is left to keep, kept with what is kept, gives all.
+use Prim.Native.Nat.{◌-◌}
+use mathlib.Core.Path.{◌≡◌}
+use Rattle.translator.specs.NestSheets.{modifiers_at}
+use Rattle.translator.specs.Keeping.{keep_all}
+use Rattle.translator.proofs.rules.keep_terms.Given as goal
+
+abbrev pub invariant-loop-t : goal.invariant-loop-t
+invariant-loop-t l = keep_all (modifiers_at l.m l.o l.t (l.o - l.t)) l.kept ≡ keep_all (modifiers_at l.m l.o 0 l.o) l.initial.kept
+
+abbrev pub decreases-loop-t : goal.decreases-loop-t
+decreases-loop-t l = l.o - l.t

@@ -1,0 +1,13 @@
+-- `write::put_terms` meets its contract: what is left to write, written onto the page as it is, gives all.
+use Prim.Native.Nat.{◌-◌}
+use mathlib.Core.Path.{◌≡◌}
+use mathlib.Core.List.{map}
+use Rattle.translator.specs.NestSheets.{modifier_op, modifiers_at}
+use Rattle.translator.specs.Pages.{put_all}
+use Rattle.translator.proofs.write.put_terms.Given as goal
+
+abbrev pub invariant-loop-t : goal.invariant-loop-t
+invariant-loop-t l = put_all (map (modifier_op l.register) (modifiers_at l.m l.d l.t (l.d - l.t))) l.page ≡ put_all (map (modifier_op l.register) (modifiers_at l.m l.d 0 l.d)) l.initial.page
+
+abbrev pub decreases-loop-t : goal.decreases-loop-t
+decreases-loop-t l = l.d - l.t
