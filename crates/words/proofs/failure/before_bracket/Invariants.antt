@@ -1,4 +1,4 @@
-use Rattle.std.proofs.Common.{◌-◌, ◌≤◌, length}
+use Rattle.std.proofs.Common.{◌≤◌, length}
 use Rattle.words.proofs.failure.before_bracket.Given as goal
 
 abbrev pub invariant-loop-at : goal.invariant-loop-at

@@ -1,4 +1,4 @@
-use Rattle.std.proofs.Common.{◌≡◌, ◌≤◌, arith}
+use Rattle.std.proofs.Common.{arith}
 use Rattle.words.proofs.ChangeSteps.{changed-more, changed-before, changed-after}
 use Rattle.words.proofs.memory.changed.Goals as goal
 

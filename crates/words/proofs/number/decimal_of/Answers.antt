@@ -1,4 +1,4 @@
-use Rattle.std.proofs.Common.{◌≡◌, ◌≤◌, sym, ◌∙◌, arith}
+use Rattle.std.proofs.Common.{sym, ◌∙◌, arith}
 use Rattle.words.proofs.DecimalSteps.{digits-some, digits-none, digits_more, digits-stop, digits-done}
 use Rattle.words.proofs.number.decimal_of.Goals as goal
 
