@@ -1,5 +1,6 @@
 // Whole files, read into a lent buffer and written; why one cannot be is said on standard error.
-ghost use Rattle.std.specs.Prelude.{◌≡◌, ◌≤◌, length, ◌==◌};
+ghost use Rattle.std.specs.Prelude.{◌≡◌, ◌+◌, ◌<◌, ◌≤◌, length, take, drop, true, IfOk, OnErr, ◌==◌};
+ghost use Rattle.std.specs.Io.KnownBytes.{Consumes, Keeps, IsAtEnd};
 ghost use Rattle.words.specs.Files.{IsPrefixLen, is_ended, is_failed, is_full};
 
 use crate::argument::complain;
@@ -67,21 +68,23 @@ impl<R: Read> Read for Told<R> {
 
 // One read into a buffer, from a place on.
 fn read_on<R: Read>(from: &mut R, out: &mut [u8], at: usize) -> io::Result<usize>
-    requires { at ≤ length out.old }
+    requires { at < length out.old }
+    ensures front { take at out.new ≡ take at out.old }
+    ensures fits { IfOk result (λ n. at + n ≤ length out.new) }
+    ensures ok { IfOk result (λ n. Consumes (R.remaining from.old) (R.remaining from.new) (take n (drop at out.new))) }
+    ensures err { OnErr result (Keeps (R.remaining from.old) (R.remaining from.new)) }
+    ensures end { IfOk result (λ n. n ≡ 0 → IsAtEnd (R.remaining from.new)) }
 {
     from.read(&mut out[at..])
 }
 
-fn least(a: usize, b: usize) -> usize
-    ensures { result ≤ b }
-{
-    if a < b { a } else { b }
-}
-
-// Reads until the end, a read that fails, or until the buffer is full.
+// Reads until the end, a read that fails, or until the buffer is full. What was read stands at the start of the buffer. Of a reader whose
+// bytes are known it is the first of them, and at the end none is left.
 pub fn take_all<R: Read>(from: &mut R, out: &mut [u8]) -> Taken
     ensures prefix_len { IsPrefixLen result.count out.new }
     ensures stop_value { is_full result.stop ≡ (result.count == length out.new) }
+    ensures bytes { Consumes (R.remaining from.old) (R.remaining from.new) (take result.count out.new) }
+    ensures end { is_ended result.stop ≡ true → IsAtEnd (R.remaining from.new) }
 {
     let mut count = 0;
     while count < out.len() {
@@ -91,14 +94,13 @@ pub fn take_all<R: Read>(from: &mut R, out: &mut [u8]) -> Taken
                 stop: Stop::Failed,
             };
         };
-        let more = least(got, out.len() - count);
-        if more == 0 {
+        if got == 0 {
             return Taken {
                 count,
                 stop: Stop::Ended,
             };
         }
-        count += more;
+        count += got;
     }
     Taken {
         count,
@@ -106,11 +108,18 @@ pub fn take_all<R: Read>(from: &mut R, out: &mut [u8]) -> Taken
     }
 }
 
+// The system's numbers for three errors: `Invalid argument`, `File name too long`, `Invalid or incomplete multibyte or wide character`.
+const INVALID: i32 = 22;
+
+const TOO_LONG: i32 = 36;
+
+const NOT_TEXT: i32 = 84;
+
 // Why an argument is not at hand.
 fn unfilled(why: FillError) -> io::Error {
     match why {
-        FillError::NotPresent => io::Error::from_raw_os_error(22),
-        FillError::TooLong => io::Error::from_raw_os_error(36),
+        FillError::NotPresent => io::Error::from_raw_os_error(INVALID),
+        FillError::TooLong => io::Error::from_raw_os_error(TOO_LONG),
     }
 }
 
@@ -118,7 +127,7 @@ fn unfilled(why: FillError) -> io::Error {
 fn text_of(path: &[u8]) -> io::Result<&str> {
     match str::from_utf8(path) {
         Ok(text) => Ok(text),
-        Err(e) => Err(io::Error::from_raw_os_error(84)),
+        Err(why) => Err(io::Error::from_raw_os_error(NOT_TEXT)),
     }
 }
 
