@@ -68,12 +68,12 @@ impl<R: Read> Read for Told<R> {
 
 // One read into a buffer, from a place on.
 fn read_on<R: Read>(from: &mut R, out: &mut [u8], at: usize) -> io::Result<usize>
-    requires { at < length out.old }
+    requires { at ≤ length out.old }
     ensures front { take at out.new ≡ take at out.old }
     ensures fits { IfOk result (λ n. at + n ≤ length out.new) }
     ensures ok { IfOk result (λ n. Consumes (R.remaining from.old) (R.remaining from.new) (take n (drop at out.new))) }
     ensures err { OnErr result (Keeps (R.remaining from.old) (R.remaining from.new)) }
-    ensures end { IfOk result (λ n. n ≡ 0 → IsAtEnd (R.remaining from.new)) }
+    ensures end { IfOk result (λ n. n ≡ 0 → at < length out.old → IsAtEnd (R.remaining from.new)) }
 {
     from.read(&mut out[at..])
 }

@@ -19,7 +19,7 @@ returns-then-got-eq0-clause-bytes g c =
     subst (Consumes _ _) (ap (λ n. take n c.read_on.new.out) none) (read_more _ _ _ _ _ count c.in-Ok.got read.front c.loop-count.invariant.2 read.ok)
 
 pub returns-then-got-eq0-clause-end : goal.returns-then-got-eq0-clause-end
-returns-then-got-eq0-clause-end g c e = c.in-Ok.ensures.end c.if-got-eq0.true
+returns-then-got-eq0-clause-end g c e = c.in-Ok.ensures.end c.if-got-eq0.true c.loop-count-test.true
 
 pub loop-count-preserved : goal.loop-count-preserved
 loop-count-preserved g c =
