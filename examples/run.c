@@ -1,5 +1,5 @@
 /* Runs a sheet file on a memory file, with vectors of 16 bytes, and writes what the report says of the run, of a lane outside memory and
- * of each register with valid lanes. From the top of the repository, once `rt staticlib uve` has written the library:
+ * of each register with valid lanes. From the top of the repository, once `tools/build uve` has written the library:
  *
  *   cc -Iinclude examples/run.c target/staticlib/libuve.a -o run-c
  *   ./run-c sheet image

@@ -1,4 +1,4 @@
-/* The engine and the translator for C: the functions of target/staticlib/libuve.a, which `rt staticlib uve` proves and writes.
+/* The engine and the translator for C: the functions of target/staticlib/libuve.a, which `tools/build uve` proves and writes.
  *
  * A buffer is a pointer and a length in bytes. The buffers of a call must not overlap. A buffer of length 0 may have any pointer, NULL
  * too. No call reads or writes outside its buffers, or reads what a report held before.

@@ -3,12 +3,14 @@
 #![tactic(auto)]
 
 ghost use Rattle.std.specs.Prelude.{◌<◌, ◌≤◌, length};
-ghost use Rattle.io.specs.Counts.{IsPrefixLen};
+ghost use Rattle.words.specs.Files.{IsPrefixLen};
 
 use codec::refusal::Refusal;
 use engine::check::Told;
 use engine::question::{end_of_stream, flag};
 use engine::run::{Report, Verdict, run};
+use words::file::take_all;
+use words::text::say;
 
 // What becomes of a row.
 #[derive(Clone, Copy)]
@@ -339,7 +341,7 @@ fn row_of(line: &[u8]) -> Row {
 }
 
 // Counts a line, unless it is empty or a comment, and names it where it does not agree or cannot be read.
-fn counted(t: Tally, line: &[u8], number: u64) -> Tally {
+fn counted(out: &impl Print, t: Tally, line: &[u8], number: u64) -> Tally {
     if line.len() == 0 || line[0] == b'#' {
         return t;
     }
@@ -353,27 +355,27 @@ fn counted(t: Tally, line: &[u8], number: u64) -> Tally {
             };
         }
         Row::Differs => {
-            io::write_all(1, b"does not agree:");
-            io::write_all(1, field(line, 1));
+            say(out, b"does not agree:");
+            say(out, field(line, 1));
         }
         Row::Unreadable => {
-            io::write_all(1, b"cannot be read: line ");
-            io::print_decimal(1, number);
+            say(out, b"cannot be read: line ");
+            words::text::decimal(out, number);
         }
     }
-    io::write_all(1, b"\n");
+    say(out, b"\n");
     Tally { rows, wrong }
 }
 
 // Every line of a table in turn.
-fn table(text: &[u8]) -> Tally {
+fn table(out: &impl Print, text: &[u8]) -> Tally {
     let mut t = Tally { rows: 0, wrong: 0 };
     let mut number: u64 = 0;
     let mut from = 0;
     while from < text.len() {
         let to = find(text, from, b'\n');
         number = std::num::wrapping_add_u64(number, 1);
-        t = counted(t, &text[from..to], number);
+        t = counted(out, t, &text[from..to], number);
         if to == text.len() {
             return t;
         }
@@ -383,19 +385,19 @@ fn table(text: &[u8]) -> Tally {
 }
 
 // Compares every row of a table, and prints the counts. A table that fills its buffer may be cut off.
-fn report(text: &[u8]) {
+fn report(out: &impl Print, text: &[u8]) {
     if text.len() == 131072 {
-        io::write_all(1, b"cannot be read: more than 131,071 bytes\n");
+        say(out, b"cannot be read: more than 131,071 bytes\n");
     }
-    let t = table(text);
-    io::print_decimal(1, t.rows);
-    io::write_all(1, b" rows, ");
-    io::print_decimal(1, t.wrong);
-    io::write_all(1, b" do not agree\n");
+    let t = table(out, text);
+    words::text::decimal(out, t.rows);
+    say(out, b" rows, ");
+    words::text::decimal(out, t.wrong);
+    say(out, b" do not agree\n");
 }
 
-fn main() {
+fn main(rt: HostRuntime) {
     let mut text = [0u8; 131072];
-    let n = io::read_full(0, &mut text);
-    report(&text[..n]);
+    let taken = take_all(&mut rt.reader(), &mut text);
+    report(&rt, &text[..taken.count]);
 }

@@ -4,3 +4,4 @@ pub mod Fields
 mod Asked
 mod Texts
 mod Ranges
+mod Others

@@ -1,18 +1,21 @@
 // Lists a sheet as text.
 #![tactic(auto)]
 
-ghost use Rattle.io.specs.Counts.{IsPrefixLen};
+ghost use Rattle.words.specs.Files.{IsPrefixLen};
 
 use codec::refusal::Refusal;
 use engine::run::{Verdict, set_up};
-use words::argument::{asks_for_help, complain};
+use std::env::Env;
+use std::fs::Files;
+use words::argument::{arg_count, asks_for_help, complain};
 use words::file::{Taken, is_whole, read_argument, read_input, write_output};
 use words::refusal::{explained, refused};
 use words::sheet::lines;
 use words::text::{counted, say};
 
-fn help() {
+fn help(out: &impl Print) {
     say(
+        out,
         b"usage: listing [SHEET]
 
 Lists the sheet file SHEET, or standard input, as text: a line for each operation and calculation, with its
@@ -33,51 +36,57 @@ fn last_place(why: Refusal, place: usize, len: usize) -> usize {
 }
 
 // Lists a sheet, and says whether it is accepted.
-fn list(sheet: &[u8]) {
+fn list(out: &impl Print, err: &impl Print, sheet: &[u8]) {
     let settled = set_up(sheet, sheet.len());
     let verdict = settled.verdict;
     match verdict {
         Verdict::Done => {
-            lines(sheet, 0, sheet.len());
-            say(b"accepted: ");
-            counted(sheet.len() as u64, b"byte", b"bytes");
+            lines(out, sheet, 0, sheet.len());
+            say(out, b"accepted: ");
+            counted(out, sheet.len() as u64, b"byte", b"bytes");
         }
         Verdict::Refused(why, place) => {
-            lines(sheet, 0, last_place(why, place, sheet.len()));
-            refused(why, place);
-            say(b": ");
-            explained(why);
+            lines(out, sheet, 0, last_place(why, place, sheet.len()));
+            refused(out, why, place);
+            say(out, b": ");
+            explained(out, why);
         }
     }
-    write_output(b"\n");
+    write_output(out, err, b"\n");
 }
 
 // Reads the file that the first argument names, or standard input if there is none.
-fn read_sheet(count: usize, sheet: &mut [u8]) -> Taken
+fn read_sheet<R: Env + Files + Input>(
+    rt: &R,
+    err: &impl Print,
+    count: usize,
+    sheet: &mut [u8],
+) -> Taken
     ensures { IsPrefixLen result.count sheet.new }
 {
     if count < 2 {
-        return read_input(sheet);
+        return read_input(rt, err, sheet);
     }
-    read_argument(1, sheet)
+    read_argument(rt, err, 1, sheet)
 }
 
-fn main() {
-    if asks_for_help() {
-        help();
+fn main(rt: HostRuntime) {
+    let err = rt.stderr();
+    if asks_for_help(&rt) {
+        help(&rt);
         return;
     }
-    let count = os::arg_count();
+    let count = arg_count(&rt);
     if 2 < count {
-        complain(b"listing takes one sheet\n");
-        complain(&USAGE);
+        complain(&err, b"listing takes one sheet\n");
+        complain(&err, &USAGE);
         return;
     }
     let mut sheet = [0u8; 65537];
-    let taken = read_sheet(count, &mut sheet);
+    let taken = read_sheet(&rt, &err, count, &mut sheet);
     let n = taken.count;
     let stop = taken.stop;
-    if is_whole(stop, &USAGE) {
-        list(&sheet[..n]);
+    if is_whole(&err, stop, &USAGE) {
+        list(&rt, &err, &sheet[..n]);
     }
 }

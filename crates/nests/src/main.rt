@@ -9,32 +9,34 @@ mod rows;
 
 use crate::line::{Line, empty_line, with_byte};
 use crate::rows::{Tally, row_of};
+use words::file::take_all;
+use words::text::{decimal, say};
 
 // Writes and counts the row of a line, unless the line is empty or a comment.
-fn counted(t: Tally, line: Line) -> Tally {
+fn counted(out: &impl Print, t: Tally, line: Line) -> Tally {
     let kind = line.kind;
     if kind == 0 || kind == b'#' {
         return t;
     }
     if line.bad || line.digits % 2 == 1 {
-        io::write_all(1, b"a row that cannot be read\n");
+        say(out, b"a row that cannot be read\n");
         return Tally {
             rows: std::num::wrapping_add_u64(t.rows, 1),
             wrong: std::num::wrapping_add_u64(t.wrong, 1),
         };
     }
-    row_of(t, line)
+    row_of(out, t, line)
 }
 
 // Every line of a table in turn.
-fn table(text: &[u8]) -> Tally {
+fn table(out: &impl Print, text: &[u8]) -> Tally {
     let mut t = Tally { rows: 0, wrong: 0 };
     let mut line = empty_line();
     let mut at = 0;
     while at < text.len() {
         let b = text[at];
         if b == b'\n' {
-            t = counted(t, line);
+            t = counted(out, t, line);
             line = empty_line();
         } else {
             line = with_byte(line, b);
@@ -44,12 +46,12 @@ fn table(text: &[u8]) -> Tally {
     t
 }
 
-fn main() {
+fn main(rt: HostRuntime) {
     let mut text = [0u8; 32768];
-    let n = io::read_full(0, &mut text);
-    let t = table(&text[..n]);
-    io::print_decimal(1, t.rows);
-    io::write_all(1, b" rows, ");
-    io::print_decimal(1, t.wrong);
-    io::write_all(1, b" not as they must be\n");
+    let taken = take_all(&mut rt.reader(), &mut text);
+    let t = table(&rt, &text[..taken.count]);
+    decimal(&rt, t.rows);
+    say(&rt, b" rows, ");
+    decimal(&rt, t.wrong);
+    say(&rt, b" not as they must be\n");
 }

@@ -5,6 +5,7 @@ use crate::plain::{plain_loop, whole_chunks};
 use engine::run::Verdict;
 use translator::nest::{NestAnswer, Stage};
 use translator::run::run_nest;
+use words::text::{decimal, say};
 
 // The bytes of a memory.
 const SIZE: usize = 16384;
@@ -184,66 +185,67 @@ fn at_lengths(nest: &[u8], first: u64, want: Ending) -> Shown {
     s
 }
 
-fn write_with(text: &[u8], n: u64) {
-    io::write_all(1, text);
-    io::print_decimal(1, n);
+fn write_with(out: &impl Print, text: &[u8], n: u64) {
+    say(out, text);
+    decimal(out, n);
 }
 
 // Writes what runs show that are done.
-fn write_done(s: Shown, same: u64) {
-    write_with(b": ", s.visits);
+fn write_done(out: &impl Print, s: Shown, same: u64) {
+    write_with(out, b": ", s.visits);
     if same == 8 {
-        write_with(b" visits, agree at ", s.same);
-        io::write_all(1, b" of 8 lengths");
+        write_with(out, b" visits, agree at ", s.same);
+        say(out, b" of 8 lengths");
         return;
     }
     write_with(
+        out,
         b" visits, differs at ",
         std::num::wrapping_sub_u64(8, s.same),
     );
-    io::write_all(1, b" of 8 lengths, as it must");
+    say(out, b" of 8 lengths, as it must");
 }
 
 // Writes what runs show that are refused.
-fn write_refused(s: Shown, end: Ending) {
+fn write_refused(out: &impl Print, s: Shown, end: Ending) {
     if end.number == 14 {
-        write_with(b": ", s.visits);
-        write_with(b" visits, refused with 14 at ", end.place);
-        write_with(b", earlier chunks written, at ", s.same);
+        write_with(out, b": ", s.visits);
+        write_with(out, b" visits, refused with 14 at ", end.place);
+        write_with(out, b", earlier chunks written, at ", s.same);
     } else {
-        write_with(b": refused with ", end.number);
-        write_with(b" at ", end.place);
-        write_with(b", memory untouched, at ", s.same);
+        write_with(out, b": refused with ", end.number);
+        write_with(out, b" at ", end.place);
+        write_with(out, b", memory untouched, at ", s.same);
     }
-    io::write_all(1, b" of 8 lengths");
+    say(out, b" of 8 lengths");
 }
 
 // Writes how a row is not as it must be.
-fn write_wrong(s: Shown) {
+fn write_wrong(out: &impl Print, s: Shown) {
     let last = s.last;
-    write_with(b"; NOT AS IT MUST BE: ended so at ", s.ended);
-    write_with(b" lengths, at the last with ", last.number);
-    write_with(b" at ", last.place);
-    write_with(b"; memory differs first at length ", s.length);
-    write_with(b", byte ", s.byte as u64);
+    write_with(out, b"; NOT AS IT MUST BE: ended so at ", s.ended);
+    write_with(out, b" lengths, at the last with ", last.number);
+    write_with(out, b" at ", last.place);
+    write_with(out, b"; memory differs first at length ", s.length);
+    write_with(out, b", byte ", s.byte as u64);
 }
 
 // Writes a row, and counts it.
-fn row(mut t: Tally, name: &[u8], nest: &[u8], want: Want) -> Tally {
+fn row(out: &impl Print, mut t: Tally, name: &[u8], nest: &[u8], want: Want) -> Tally {
     let end = want.ending;
     let s = at_lengths(nest, want.first, end);
-    io::write_all(1, name);
+    say(out, name);
     if end.number == 0 {
-        write_done(s, want.same);
+        write_done(out, s, want.same);
     } else {
-        write_refused(s, end);
+        write_refused(out, s, end);
     }
     t.rows = std::num::wrapping_add_u64(t.rows, 1);
     if s.ended != 8 || s.same != want.same {
-        write_wrong(s);
+        write_wrong(out, s);
         t.wrong = std::num::wrapping_add_u64(t.wrong, 1);
     }
-    io::write_all(1, b"\n");
+    say(out, b"\n");
     t
 }
 
@@ -299,10 +301,11 @@ fn front(s: &[u8], n: usize) -> &[u8] {
 }
 
 // Writes the row of a line, and counts it.
-pub(crate) fn row_of(t: Tally, line: Line) -> Tally {
+pub(crate) fn row_of(out: &impl Print, t: Tally, line: Line) -> Tally {
     let name = line.name;
     let nest = line.nest;
     row(
+        out,
         t,
         front(&name, line.named),
         front(&nest, line.digits / 2),

@@ -3,7 +3,9 @@
 
 use engine::register::Machine;
 use engine::run::{Answer, Verdict};
-use words::argument::{asks_for_help, complain, number_argument};
+use std::env::Env;
+use std::fs::Files;
+use words::argument::{arg_count, asks_for_help, complain, number_argument};
 use words::file::{Stop, is_whole, read_argument, write_argument, write_output};
 use words::memory::changed;
 use words::number::Decimal;
@@ -12,8 +14,9 @@ use words::register::registers;
 use words::sheet::lines;
 use words::text::{counted, decimal, say};
 
-fn help() {
+fn help(out: &impl Print) {
     say(
+        out,
         b"usage: run VECTOR-LENGTH SHEET MEMORY [OUT]
 
 Runs the sheet file SHEET on a copy of the memory file MEMORY, with vectors of VECTOR-LENGTH bytes (8 to 64,
@@ -31,110 +34,145 @@ dimension, a clear one as -) and the valid lanes in hexadecimal; and how many by
 // How the program is used.
 const USAGE: [u8; 44] = *b"usage: run VECTOR-LENGTH SHEET MEMORY [OUT]\n";
 
-fn wrong_use(what: &[u8]) {
-    complain(what);
-    complain(&USAGE);
+fn wrong_use(err: &impl Print, what: &[u8]) {
+    complain(err, what);
+    complain(err, &USAGE);
 }
 
 // Writes the verdict of a sheet; of a refusal its meaning, and the line of what stands at its place. 15 has no place.
-fn verdict_words(v: Verdict, sheet: &[u8], m: Machine) {
+fn verdict_words(out: &impl Print, v: Verdict, sheet: &[u8], m: Machine) {
     match v {
-        Verdict::Done => say(b"done\n"),
+        Verdict::Done => say(out, b"done\n"),
         Verdict::Refused(why, place) => {
-            refused(why, place);
-            say(b"\n");
-            explained_run(why, place, sheet, m);
-            say(b"\n");
+            refused(out, why, place);
+            say(out, b"\n");
+            explained_run(out, why, place, sheet, m);
+            say(out, b"\n");
             if why.number() != 15 {
-                lines(sheet, place, place);
+                lines(out, sheet, place, place);
             }
         }
     }
 }
 
 // Writes how many bytes of a memory changed. One of more than 65,536 bytes was not read to its end.
-fn last_line(before: &[u8], after: &[u8]) {
-    decimal(changed(before, after) as u64);
-    say(b" of ");
+fn last_line(out: &impl Print, err: &impl Print, before: &[u8], after: &[u8]) {
+    decimal(out, changed(before, after) as u64);
+    say(out, b" of ");
     if 65536 < before.len() {
-        say(b"more than 65,536 memory bytes changed");
+        say(out, b"more than 65,536 memory bytes changed");
     } else {
         counted(
+            out,
             before.len() as u64,
             b"memory byte changed",
             b"memory bytes changed",
         );
     }
-    write_output(b"\n");
+    write_output(out, err, b"\n");
 }
 
 // Writes all that a run came to.
-fn answer_words(a: Answer, sheet: &[u8], before: &[u8], after: &[u8]) {
+fn answer_words(
+    out: &impl Print,
+    err: &impl Print,
+    a: Answer,
+    sheet: &[u8],
+    before: &[u8],
+    after: &[u8],
+) {
     let verdict = a.verdict;
     let report = a.report;
     let machine = a.machine;
-    verdict_words(verdict, sheet, machine);
-    counted(report.passes, b"pass, ", b"passes, ");
-    counted(report.calculations, b"calculation\n", b"calculations\n");
-    registers(machine);
-    last_line(before, after);
+    verdict_words(out, verdict, sheet, machine);
+    counted(out, report.passes, b"pass, ", b"passes, ");
+    counted(
+        out,
+        report.calculations,
+        b"calculation\n",
+        b"calculations\n",
+    );
+    registers(out, machine);
+    last_line(out, err, before, after);
 }
 
 // Writes the memory to the fourth argument's file. One of more than 65,536 bytes was not read to its end, so it is not written.
-fn keep(stop: Stop, memory: &[u8]) {
+fn keep<R: Env + Files>(rt: &R, err: &impl Print, stop: Stop, memory: &[u8]) {
     if stop.full() {
-        complain(b"the memory has more than 65,536 bytes, and is not written\n");
+        complain(
+            err,
+            b"the memory has more than 65,536 bytes, and is not written\n",
+        );
         return;
     }
-    write_argument(4, memory);
+    write_argument(rt, err, 4, memory);
 }
 
 // Runs a sheet on a memory, of which a copy is kept. Where a fourth argument names a file, that is given the memory after it.
-fn job(vl: u64, sheet: &[u8], before: &[u8], memory: &mut [u8], stop: Stop, named: bool) {
+fn job<R: Env + Files + Print>(
+    rt: &R,
+    err: &impl Print,
+    vl: u64,
+    sheet: &[u8],
+    before: &[u8],
+    memory: &mut [u8],
+    stop: Stop,
+    named: bool,
+) {
     let answer = engine::run::run(sheet, vl, memory);
     if named {
-        keep(stop, memory);
+        keep(rt, err, stop, memory);
     }
-    answer_words(answer, sheet, before, memory);
+    answer_words(rt, err, answer, sheet, before, memory);
 }
 
 // Runs a sheet on the memory file that the third argument names.
-fn on_memory(vl: u64, sheet: &[u8], named: bool) {
+fn on_memory<R: Env + Files + Print>(rt: &R, err: &impl Print, vl: u64, sheet: &[u8], named: bool) {
     let mut before = [0u8; 65537];
-    let taken = read_argument(3, &mut before);
+    let taken = read_argument(rt, err, 3, &mut before);
     let n = taken.count;
     let stop = taken.stop;
     if stop.failed() {
-        complain(&USAGE);
+        complain(err, &USAGE);
         return;
     }
     let mut memory = before;
-    job(vl, sheet, &before[..n], &mut memory[..n], stop, named);
+    job(
+        rt,
+        err,
+        vl,
+        sheet,
+        &before[..n],
+        &mut memory[..n],
+        stop,
+        named,
+    );
 }
 
-fn main() {
-    if asks_for_help() {
-        help();
+fn main(rt: HostRuntime) {
+    let err = rt.stderr();
+    if asks_for_help(&rt) {
+        help(&rt);
         return;
     }
-    let count = os::arg_count();
+    let count = arg_count(&rt);
     if count < 4 {
-        wrong_use(b"run takes a vector length, a sheet and a memory\n");
+        wrong_use(&err, b"run takes a vector length, a sheet and a memory\n");
         return;
     }
     if 5 < count {
-        wrong_use(b"run takes no more than four arguments\n");
+        wrong_use(&err, b"run takes no more than four arguments\n");
         return;
     }
-    let Decimal::Number(vl) = number_argument(1) else {
-        wrong_use(b"the vector length is no number\n");
+    let Decimal::Number(vl) = number_argument(&rt, 1) else {
+        wrong_use(&err, b"the vector length is no number\n");
         return;
     };
     let mut sheet = [0u8; 65537];
-    let taken = read_argument(2, &mut sheet);
+    let taken = read_argument(&rt, &err, 2, &mut sheet);
     let n = taken.count;
     let stop = taken.stop;
-    if is_whole(stop, &USAGE) {
-        on_memory(vl, &sheet[..n], count == 5);
+    if is_whole(&err, stop, &USAGE) {
+        on_memory(&rt, &err, vl, &sheet[..n], count == 5);
     }
 }

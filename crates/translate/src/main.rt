@@ -3,15 +3,15 @@
 #![tactic(auto)]
 
 use codec::refusal::Refusal;
-use libc::STDERR_FILENO;
 use translator::nest::Translated;
 use translator::translate::translate;
-use words::argument::{asks_for_help, complain};
+use words::argument::{arg_count, asks_for_help, complain};
 use words::file::{read_input, write_output};
-use words::text::say;
+use words::text::{decimal, say};
 
-fn help() {
+fn help(out: &impl Print) {
     say(
+        out,
         b"usage: translate < NEST > SHEET
 
 Reads a loop nest from standard input and writes its sheet to standard output, or nothing if it is refused.
@@ -35,58 +35,69 @@ refusal's number and place, and why.
 }
 
 // Says what a refusal means in a nest.
-fn meaning(why: Refusal) {
+fn meaning(err: &impl Print, why: Refusal) {
     match why {
-        Refusal::BadNumber => complain(b"a number is cut off, too long or not shortest\n"),
-        Refusal::OutOfRange => complain(b"a number out of its range, or bytes after the nest\n"),
-        Refusal::TooMany => complain(b"more than eight terms are not 0\n"),
-        Refusal::LowHigh => complain(b"a loop's count can fall below 0 or rise above 4,096\n"),
+        Refusal::BadNumber => complain(err, b"a number is cut off, too long or not shortest\n"),
+        Refusal::OutOfRange => complain(
+            err,
+            b"a number out of its range, or bytes after the nest\n",
+        ),
+        Refusal::TooMany => complain(err, b"more than eight terms are not 0\n"),
+        Refusal::LowHigh => complain(
+            err,
+            b"a loop's count can fall below 0 or rise above 4,096\n",
+        ),
         Refusal::Product => complain(
+            err,
             b"the product of the loops' largest counts is above 1,048,576\n",
         ),
-        _ => complain(b"there is no room for the sheet\n"),
+        _ => complain(err, b"there is no room for the sheet\n"),
     }
 }
 
 // Says on standard error why there is no sheet.
-fn say_refused(answer: Translated) {
+fn say_refused(err: &impl Print, answer: Translated) {
     let Translated::Refused(why, place) = answer else {
         return;
     };
-    complain(b"refused ");
-    io::print_decimal(STDERR_FILENO, why.number());
-    complain(b" at ");
-    io::print_decimal(STDERR_FILENO, place as u64);
-    complain(b": ");
-    meaning(why);
+    complain(err, b"refused ");
+    decimal(err, why.number());
+    complain(err, b" at ");
+    decimal(err, place as u64);
+    complain(err, b": ");
+    meaning(err, why);
 }
 
 // Writes the sheet of a nest, or says why there is none.
-fn write_sheet(nest: &[u8]) {
+fn write_sheet(out: &impl Print, err: &impl Print, nest: &[u8]) {
     let mut room = [0u8; 1024];
     let answer = translate(nest, &mut room);
     let Translated::Sheet(behind) = answer else {
-        say_refused(answer);
+        say_refused(err, answer);
         return;
     };
-    write_output(&room[..behind]);
+    write_output(out, err, &room[..behind]);
 }
 
-fn main() {
-    if asks_for_help() {
-        help();
+fn main(rt: HostRuntime) {
+    let err = rt.stderr();
+    if asks_for_help(&rt) {
+        help(&rt);
         return;
     }
-    if 1 < os::arg_count() {
-        complain(b"translate takes no arguments\nusage: translate < NEST > SHEET\n");
+    if 1 < arg_count(&rt) {
+        complain(
+            &err,
+            b"translate takes no arguments\nusage: translate < NEST > SHEET\n",
+        );
         return;
     }
     // No nest is longer than 195 bytes: one that fills this buffer is refused as the whole of it is.
     let mut nest = [0u8; 257];
-    let taken = read_input(&mut nest);
+    let taken = read_input(&rt, &err, &mut nest);
     let n = taken.count;
     let stop = taken.stop;
     if !stop.failed() {
-        write_sheet(&nest[..n]);
+        write_sheet(&rt, &err, &nest[..n]);
     }
 }

@@ -7,6 +7,8 @@ ghost use Rattle.std.specs.Prelude.{◌≤◌};
 
 use engine::run::{run, set_up};
 use engine::stream::{Modifier, Shape};
+use words::file::take_all;
+use words::text::{decimal, say};
 
 // The elements that register 1's stream has moved when a sheet is done.
 fn moved(sheet: &[u8], vl: u64) -> u64 {
@@ -83,33 +85,33 @@ fn iterations(s: Shape) -> u64 {
 }
 
 // Walks a stream, and counts its iterations too unless it is to be timed.
-fn walk(choice: u8, vl: u64, one: u8, name: &[u8], sheet: &[u8]) {
+fn walk(out: &impl Print, choice: u8, vl: u64, one: u8, name: &[u8], sheet: &[u8]) {
     if choice != one {
         if b'0' != choice {
             return;
         }
     }
     let elements = moved(sheet, vl);
-    io::write_all(1, name);
-    io::write_all(1, b": ");
-    io::print_decimal(1, elements);
-    io::write_all(1, b" elements");
+    say(out, name);
+    say(out, b": ");
+    decimal(out, elements);
+    say(out, b" elements");
     if choice != one {
         let settled = set_up(sheet, sheet.len());
         let machine = settled.machine;
         let r = machine.registers[1];
         let pattern = r.pattern;
         let shape = pattern.shape;
-        io::write_all(1, b", ");
-        io::print_decimal(1, iterations(shape));
-        io::write_all(1, b" iterations");
+        say(out, b", ");
+        decimal(out, iterations(shape));
+        say(out, b" iterations");
     }
-    io::write_all(1, b"\n");
+    say(out, b"\n");
 }
 
-fn main() {
+fn main(rt: HostRuntime) {
     let mut choice = [b'0'; 2];
-    io::read_full(0, &mut choice);
+    take_all(&mut rt.reader(), &mut choice);
     let mut c = choice[0];
     let mut vl = 64;
     if choice[1] == b'8' {
@@ -122,6 +124,7 @@ fn main() {
         c = b'0';
     }
     walk(
+        &rt,
         c,
         vl,
         b'1',
@@ -129,6 +132,7 @@ fn main() {
         b"\x01\x8b\x81\x01\x00\x02\x01\x00\x80\x20\x02\x04\x01\x05\x01\x01\x00\x02\x01\x01",
     );
     walk(
+        &rt,
         c,
         vl,
         b'2',
@@ -136,6 +140,7 @@ fn main() {
         b"\x01\x8b\x81\x01\x00\x02\x01\x00\x80\x20\x02\x02\x01\x00\x80\x02\x00\x04\x01\x05\x01\x01\x00\x02\x01\x01",
     );
     walk(
+        &rt,
         c,
         vl,
         b'3',
@@ -143,6 +148,7 @@ fn main() {
         b"\x01\x8b\x81\x01\x00\x02\x01\x00\x80\x20\x02\x02\x01\x00\x80\x01\x00\x04\x01\x05\x01\x01\x00\x02\x01\x01",
     );
     walk(
+        &rt,
         c,
         vl,
         b'4',
@@ -150,6 +156,7 @@ fn main() {
         b"\x01\x8b\x81\x01\x00\x02\x01\x00\x01\x02\x02\x01\x00\x80\x08\x00\x03\x01\x00\x00\x00\x01\x04\x01\x05\x01\x01\x00\x02\x01\x01",
     );
     walk(
+        &rt,
         c,
         vl,
         b'5',
@@ -157,6 +164,7 @@ fn main() {
         b"\x01\x8b\x81\x01\x00\x02\x01\x00\x01\x02\x02\x01\x00\x80\x04\x00\x03\x01\x00\x00\x00\x01\x04\x01\x05\x01\x01\x00\x02\x01\x01",
     );
     walk(
+        &rt,
         c,
         vl,
         b'6',
@@ -164,6 +172,7 @@ fn main() {
         b"\x01\x8b\x81\x01\x00\x02\x01\x00\x08\x02\x02\x01\x00\x08\x02\x02\x01\x00\x08\x02\x02\x01\x00\x08\x02\x02\x01\x00\x08\x02\x02\x01\x00\x08\x02\x02\x01\x00\x04\x02\x04\x01\x05\x01\x01\x00\x02\x01\x01",
     );
     walk(
+        &rt,
         c,
         vl,
         b'7',
@@ -171,6 +180,7 @@ fn main() {
         b"\x01\x8b\x81\x01\x00\x02\x01\x00\x08\x02\x02\x01\x00\x08\x02\x02\x01\x00\x08\x02\x02\x01\x00\x08\x02\x02\x01\x00\x08\x02\x02\x01\x00\x08\x02\x02\x01\x00\x02\x02\x04\x01\x05\x01\x01\x00\x02\x01\x01",
     );
     walk(
+        &rt,
         c,
         vl,
         b'8',
@@ -178,6 +188,7 @@ fn main() {
         b"\x01\x8b\x81\x01\x00\x02\x01\x00\x00\x02\x02\x01\x00\x80\x20\x00\x02\x01\x00\x80\x01\x00\x02\x01\x00\x02\x00\x03\x01\x00\x00\x00\x01\x04\x01\x05\x01\x01\x00\x02\x01\x01",
     );
     walk(
+        &rt,
         c,
         vl,
         b'9',

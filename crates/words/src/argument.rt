@@ -2,7 +2,8 @@
 ghost use Rattle.std.specs.Prelude.{◌≡◌, true};
 
 use crate::number::{Decimal, decimal_of};
-use libc::STDERR_FILENO;
+use crate::text::say;
+use std::env::{Env, FillError};
 
 // Whether two texts are the same.
 fn same(a: &[u8], b: &[u8]) -> bool
@@ -21,24 +22,45 @@ fn same(a: &[u8], b: &[u8]) -> bool
     true
 }
 
+// Whether there is no such argument.
+fn is_missing(env: &impl Env, i: usize) -> bool {
+    let mut text = [0u8; 1];
+    match env.arg(i, &mut text) {
+        Ok(n) => false,
+        Err(FillError::TooLong) => false,
+        Err(FillError::NotPresent) => true,
+    }
+}
+
+// How many arguments the program was started with, its own name among them.
+pub fn arg_count(env: &impl Env) -> usize {
+    for i in 0..usize::MAX {
+        if is_missing(env, i) {
+            return i;
+        }
+    }
+    usize::MAX
+}
+
 // Whether the first argument asks for help.
-pub fn asks_for_help() -> bool {
+pub fn asks_for_help(env: &impl Env) -> bool {
     let mut word = [0u8; 7];
-    let n = os::arg(1, &mut word);
-    same(&word[..n], b"--help")
+    match env.arg(1, &mut word) {
+        Ok(n) => same(&word[..n], b"--help"),
+        Err(why) => false,
+    }
 }
 
 // The number that an argument says.
-pub fn number_argument(i: usize) -> Decimal {
-    let mut text = io::buffer();
-    let n = os::arg(i, &mut text);
-    if os::errno() != 0 {
-        return Decimal::NoNumber;
+pub fn number_argument(env: &impl Env, i: usize) -> Decimal {
+    let mut text = [0u8; 4096];
+    match env.arg(i, &mut text) {
+        Ok(n) => decimal_of(&text[..n]),
+        Err(why) => Decimal::NoNumber,
     }
-    decimal_of(&text[..n])
 }
 
 // Writes a line on standard error.
-pub fn complain(line: &[u8]) {
-    io::write_all(STDERR_FILENO, line);
+pub fn complain(err: &impl Print, line: &[u8]) {
+    say(err, line);
 }

@@ -1,9 +1,13 @@
 // Whole files, read into a lent buffer and written; why one cannot be is said on standard error.
 ghost use Rattle.std.specs.Prelude.{◌≡◌, ◌≤◌, length, ◌==◌};
-ghost use Rattle.io.specs.Counts.{IsPrefixLen};
-ghost use Rattle.words.specs.Files.{is_ended, is_failed, is_full};
+ghost use Rattle.words.specs.Files.{IsPrefixLen, is_ended, is_failed, is_full};
 
 use crate::argument::complain;
+use crate::failure::{blame, fail};
+use std::env::{Env, FillError};
+use std::fs::{File, Files};
+use std::io;
+use std::io::{Read, Write};
 
 // How reading stopped: at the end of the file, in a read that failed, or with the buffer full.
 #[derive(Clone, Copy)]
@@ -42,11 +46,30 @@ impl Stop {
     }
 }
 
+// A reader that keeps why its last read failed.
+#[derive(Drop)]
+struct Told<R> {
+    from: R,
+    why: Option<io::Error>,
+}
+
+impl<R: Read> Read for Told<R> {
+    fn read(&mut self, buf: &mut [u8]) -> io::Result<usize> {
+        match self.from.read(buf) {
+            Ok(n) => Ok(n),
+            Err(e) => {
+                self.why = Some(e);
+                Err(e)
+            }
+        }
+    }
+}
+
 // One read into a buffer, from a place on.
-fn read_on(fd: i32, out: &mut [u8], from: usize) -> isize
-    requires { from ≤ length out.old }
+fn read_on<R: Read>(from: &mut R, out: &mut [u8], at: usize) -> io::Result<usize>
+    requires { at ≤ length out.old }
 {
-    libc::read(fd, &mut out[from..])
+    from.read(&mut out[at..])
 }
 
 fn least(a: usize, b: usize) -> usize
@@ -55,21 +78,20 @@ fn least(a: usize, b: usize) -> usize
     if a < b { a } else { b }
 }
 
-// Reads a descriptor until its end, a read that fails, or until the buffer is full.
-pub fn take_all(fd: i32, out: &mut [u8]) -> Taken
+// Reads until the end, a read that fails, or until the buffer is full.
+pub fn take_all<R: Read>(from: &mut R, out: &mut [u8]) -> Taken
     ensures prefix_len { IsPrefixLen result.count out.new }
     ensures stop_value { is_full result.stop ≡ (result.count == length out.new) }
 {
     let mut count = 0;
     while count < out.len() {
-        let got = read_on(fd, out, count);
-        if got < 0 {
+        let Ok(got) = read_on(from, out, count) else {
             return Taken {
                 count,
                 stop: Stop::Failed,
             };
-        }
-        let more = least(io::count(got, out), out.len() - count);
+        };
+        let more = least(got, out.len() - count);
         if more == 0 {
             return Taken {
                 count,
@@ -84,12 +106,19 @@ pub fn take_all(fd: i32, out: &mut [u8]) -> Taken
     }
 }
 
-// Says on standard error why the last call on a path failed.
-fn blame(path: &[u8]) {
-    if path.len() == 0 {
-        os::fail(b"an empty path");
-    } else {
-        os::fail(path);
+// Why an argument is not at hand.
+fn unfilled(why: FillError) -> io::Error {
+    match why {
+        FillError::NotPresent => io::Error::from_raw_os_error(22),
+        FillError::TooLong => io::Error::from_raw_os_error(36),
+    }
+}
+
+// A path as text. One that is not UTF-8 cannot be opened.
+fn text_of(path: &[u8]) -> io::Result<&str> {
+    match str::from_utf8(path) {
+        Ok(text) => Ok(text),
+        Err(e) => Err(io::Error::from_raw_os_error(84)),
     }
 }
 
@@ -103,105 +132,115 @@ fn unread() -> Taken
     }
 }
 
-// Reads the file at a path as take_all does. Where it cannot be opened or read, a line on standard error says why.
-pub fn read_path(path: &[u8], out: &mut [u8]) -> Taken
+// Reads as take_all does, and says on standard error why a read fails.
+fn take_named<R: Read + Drop>(err: &impl Print, name: &[u8], from: R, out: &mut [u8]) -> Taken
     ensures { IsPrefixLen result.count out.new }
 {
-    let fd = os::open_read(path);
-    if fd < 0 {
-        blame(path);
-        return unread();
+    let mut told = Told { from, why: None };
+    let taken = take_all(&mut told, out);
+    if let Some(why) = told.why {
+        blame(err, name, why);
     }
-    let taken = take_all(fd, out);
-    let stop = taken.stop;
-    if stop.failed() {
-        blame(path);
-    }
-    libc::close(fd);
     taken
+}
+
+fn opened<F: Files>(files: &F, path: &[u8]) -> io::Result<F::File> {
+    File::open(files, text_of(path)?)
+}
+
+fn made<F: Files>(files: &F, path: &[u8]) -> io::Result<F::File> {
+    File::create(files, text_of(path)?)
+}
+
+// Reads the file at a path as take_all does. Where it cannot be opened or read, a line on standard error says why.
+pub fn read_path<F: Files>(files: &F, err: &impl Print, path: &[u8], out: &mut [u8]) -> Taken
+    ensures { IsPrefixLen result.count out.new }
+{
+    match opened(files, path) {
+        Ok(file) => take_named(err, path, file, out),
+        Err(why) => {
+            blame(err, path, why);
+            unread()
+        }
+    }
 }
 
 // Reads the file that an argument names as read_path does.
-pub fn read_argument(i: usize, out: &mut [u8]) -> Taken
+pub fn read_argument<F: Files + Env>(rt: &F, err: &impl Print, i: usize, out: &mut [u8]) -> Taken
     ensures { IsPrefixLen result.count out.new }
 {
-    let mut path = io::buffer();
-    let n = os::arg(i, &mut path);
-    if os::errno() != 0 {
-        os::fail(b"a path");
-        return unread();
+    let mut path = [0u8; 4096];
+    match rt.arg(i, &mut path) {
+        Ok(n) => read_path(rt, err, &path[..n], out),
+        Err(why) => {
+            fail(err, b"a path", unfilled(why));
+            unread()
+        }
     }
-    read_path(&path[..n], out)
 }
 
 // Reads standard input as take_all does, and says on standard error why it cannot be read.
-pub fn read_input(out: &mut [u8]) -> Taken
+pub fn read_input<I: Input>(input: &I, err: &impl Print, out: &mut [u8]) -> Taken
     ensures { IsPrefixLen result.count out.new }
 {
-    let taken = take_all(libc::STDIN_FILENO, out);
-    let stop = taken.stop;
-    if stop.failed() {
-        os::fail(b"standard input");
-    }
-    taken
+    take_named(err, b"standard input", input.reader(), out)
 }
 
 // Writes bytes to standard output, and says on standard error why they cannot be written.
-pub fn write_output(bytes: &[u8]) {
-    if !io::write_all(libc::STDOUT_FILENO, bytes) {
-        os::fail(b"standard output");
+pub fn write_output(out: &impl Print, err: &impl Print, bytes: &[u8]) {
+    if let Err(why) = out.write_all(bytes) {
+        fail(err, b"standard output", why);
     }
 }
 
 // Whether a sheet was read to its end. If not, a line on standard error says that it is too long, or, where it could not be read, how the
 // program is used.
-pub fn is_whole(stop: Stop, usage: &[u8]) -> bool
+pub fn is_whole(err: &impl Print, stop: Stop, usage: &[u8]) -> bool
     ensures { result ≡ is_ended stop }
 {
     match stop {
         Stop::Ended => true,
         Stop::Failed => {
-            complain(usage);
+            complain(err, usage);
             false
         }
         Stop::Full => {
-            complain(b"the sheet has more than 65,536 bytes\n");
+            complain(err, b"the sheet has more than 65,536 bytes\n");
             false
         }
     }
 }
 
-// Writes bytes to an open file and closes it; whether both went well.
-fn put(fd: i32, bytes: &[u8], path: &[u8]) -> bool {
-    if !io::write_all(fd, bytes) {
-        blame(path);
-        libc::close(fd);
-        return false;
+// Writes bytes to an open file; whether that went well.
+fn put<W: Write + Drop>(mut file: W, err: &impl Print, bytes: &[u8], path: &[u8]) -> bool {
+    match file.write_all(bytes) {
+        Ok(()) => true,
+        Err(why) => {
+            blame(err, path, why);
+            false
+        }
     }
-    if libc::close(fd) < 0 {
-        blame(path);
-        return false;
-    }
-    true
 }
 
 // Makes bytes the content of the file at a path; whether that went well. If not, a line on standard error says why.
-pub fn write_path(path: &[u8], bytes: &[u8]) -> bool {
-    let fd = os::open_overwrite(path);
-    if fd < 0 {
-        blame(path);
-        return false;
+pub fn write_path<F: Files>(files: &F, err: &impl Print, path: &[u8], bytes: &[u8]) -> bool {
+    match made(files, path) {
+        Ok(file) => put(file, err, bytes, path),
+        Err(why) => {
+            blame(err, path, why);
+            false
+        }
     }
-    put(fd, bytes, path)
 }
 
 // Makes bytes the content of the file that an argument names, as write_path does.
-pub fn write_argument(i: usize, bytes: &[u8]) -> bool {
-    let mut path = io::buffer();
-    let n = os::arg(i, &mut path);
-    if os::errno() != 0 {
-        os::fail(b"a path");
-        return false;
+pub fn write_argument<F: Files + Env>(rt: &F, err: &impl Print, i: usize, bytes: &[u8]) -> bool {
+    let mut path = [0u8; 4096];
+    match rt.arg(i, &mut path) {
+        Ok(n) => write_path(rt, err, &path[..n], bytes),
+        Err(why) => {
+            fail(err, b"a path", unfilled(why));
+            false
+        }
     }
-    write_path(&path[..n], bytes)
 }

@@ -2,6 +2,7 @@
 #![tactic(auto)]
 
 pub mod argument;
+mod failure;
 pub mod file;
 pub mod memory;
 pub mod number;

@@ -13,174 +13,174 @@ pub struct Given {
     pub mods: u64,
 }
 
-pub fn kind(k: Kind) {
+pub fn kind(out: &impl Print, k: Kind) {
     match k {
-        Kind::Load => say(b"load"),
-        Kind::Store => say(b"store"),
+        Kind::Load => say(out, b"load"),
+        Kind::Store => say(out, b"store"),
     }
 }
 
 // Writes the letter of a width, which counts bytes.
-pub fn width(bytes: u64) {
+pub fn width(out: &impl Print, bytes: u64) {
     match bytes {
-        1 => say(b"B"),
-        2 => say(b"H"),
-        4 => say(b"W"),
-        _ => say(b"D"),
+        1 => say(out, b"B"),
+        2 => say(out, b"H"),
+        4 => say(out, b"W"),
+        _ => say(out, b"D"),
     }
 }
 
-fn coupling(c: Coupling) {
+fn coupling(out: &impl Print, c: Coupling) {
     match c {
         Coupling::Uncoupled => {}
         Coupling::Coupled(d) => {
-            say(b", coupled to dimension ");
-            decimal(d);
+            say(out, b", coupled to dimension ");
+            decimal(out, d);
         }
     }
 }
 
-fn open(h: Header, base: Bytes) {
+fn open(out: &impl Print, h: Header, base: Bytes) {
     let k = h.kind;
     let w = h.width;
     let c = h.coupling;
-    register(h.register);
-    say(b" ");
-    kind(k);
-    say(b" ");
-    width(w.bytes());
-    say(b", base ");
-    signed(base.0);
-    coupling(c);
+    register(out, h.register);
+    say(out, b" ");
+    kind(out, k);
+    say(out, b" ");
+    width(out, w.bytes());
+    say(out, b", base ");
+    signed(out, base.0);
+    coupling(out, c);
 }
 
 // Names a register that is not the one opened last.
-fn of_register(i: usize, here: bool) {
+fn of_register(out: &impl Print, i: usize, here: bool) {
     if !here {
-        say(b" of ");
-        register(i);
+        say(out, b" of ");
+        register(out, i);
     }
-    say(b": ");
+    say(out, b": ");
 }
 
-fn dimension(d: Dimension, g: Given, here: bool) {
+fn dimension(out: &impl Print, d: Dimension, g: Given, here: bool) {
     let offset = d.offset;
     let stride = d.stride;
-    say(b"  dimension ");
-    decimal(std::num::wrapping_add_u64(g.dims, 1));
-    of_register(d.register, here);
-    say(b"offset ");
-    signed(offset.0);
-    say(b", size ");
-    decimal(d.size);
-    say(b", stride ");
-    signed(stride.0);
+    say(out, b"  dimension ");
+    decimal(out, std::num::wrapping_add_u64(g.dims, 1));
+    of_register(out, d.register, here);
+    say(out, b"offset ");
+    signed(out, offset.0);
+    say(out, b", size ");
+    decimal(out, d.size);
+    say(out, b", stride ");
+    signed(out, stride.0);
 }
 
-fn parameter(p: Parameter) {
+fn parameter(out: &impl Print, p: Parameter) {
     match p {
-        Parameter::Size => say(b"size"),
-        Parameter::Offset => say(b"offset"),
-        Parameter::Stride => say(b"stride"),
+        Parameter::Size => say(out, b"size"),
+        Parameter::Offset => say(out, b"offset"),
+        Parameter::Stride => say(out, b"stride"),
     }
 }
 
-fn behaviour(b: Behaviour) {
+fn behaviour(out: &impl Print, b: Behaviour) {
     match b {
-        Behaviour::Add => say(b" + "),
-        Behaviour::Subtract => say(b" - "),
+        Behaviour::Add => say(out, b" + "),
+        Behaviour::Subtract => say(out, b" - "),
     }
 }
 
-fn owner(dims: u64) {
+fn owner(out: &impl Print, dims: u64) {
     if dims == 0 {
-        say(b"no dimension yet");
+        say(out, b"no dimension yet");
         return;
     }
-    say(b"dimension ");
-    decimal(dims);
+    say(out, b"dimension ");
+    decimal(out, dims);
 }
 
-fn modifier(m: Modifier, g: Given, here: bool) {
+fn modifier(out: &impl Print, m: Modifier, g: Given, here: bool) {
     let changed = m.parameter;
     let moves = m.behaviour;
-    say(b"  modifier ");
-    decimal(std::num::wrapping_add_u64(g.mods, 1));
-    of_register(m.register, here);
-    parameter(changed);
-    say(b" of dimension ");
-    decimal(std::num::wrapping_add_u64(m.target, 1));
-    behaviour(moves);
-    decimal(m.displacement);
-    say(b" x index of ");
-    owner(g.dims);
+    say(out, b"  modifier ");
+    decimal(out, std::num::wrapping_add_u64(g.mods, 1));
+    of_register(out, m.register, here);
+    parameter(out, changed);
+    say(out, b" of dimension ");
+    decimal(out, std::num::wrapping_add_u64(m.target, 1));
+    behaviour(out, moves);
+    decimal(out, m.displacement);
+    say(out, b" x index of ");
+    owner(out, g.dims);
 }
 
 // Writes an operation in words, by what its register has been given, and whether that is the one opened last, which is then not named.
-pub fn operation(o: Operation, g: Given, here: bool) {
+pub fn operation(out: &impl Print, o: Operation, g: Given, here: bool) {
     match o {
-        Operation::Open(h, base) => open(h, base),
-        Operation::Dimension(d) => dimension(d, g, here),
-        Operation::Modifier(m) => modifier(m, g, here),
+        Operation::Open(h, base) => open(out, h, base),
+        Operation::Dimension(d) => dimension(out, d, g, here),
+        Operation::Modifier(m) => modifier(out, m, g, here),
         Operation::End(i) => {
-            say(b"end ");
-            register(i);
+            say(out, b"end ");
+            register(out, i);
         }
         Operation::Run(i, n) => {
-            say(b"run while ");
-            register(i);
-            say(b" is open: ");
-            counted(n, b"calculation", b"calculations");
+            say(out, b"run while ");
+            register(out, i);
+            say(out, b" is open: ");
+            counted(out, n, b"calculation", b"calculations");
         }
     }
 }
 
-fn between(first: usize, sign: &[u8], second: usize) {
-    register(first);
-    say(sign);
-    register(second);
+fn between(out: &impl Print, first: usize, sign: &[u8], second: usize) {
+    register(out, first);
+    say(out, sign);
+    register(out, second);
 }
 
 // Writes an action on two sources in words.
-fn lane_by_lane(action: Action, c: Calculation) {
+fn lane_by_lane(out: &impl Print, action: Action, c: Calculation) {
     match action {
-        Action::Copy => register(c.first),
-        Action::Add => between(c.first, b" + ", c.second),
-        Action::Subtract => between(c.first, b" - ", c.second),
-        Action::And => between(c.first, b" and ", c.second),
-        Action::Or => between(c.first, b" or ", c.second),
-        Action::Xor => between(c.first, b" xor ", c.second),
+        Action::Copy => register(out, c.first),
+        Action::Add => between(out, c.first, b" + ", c.second),
+        Action::Subtract => between(out, c.first, b" - ", c.second),
+        Action::And => between(out, c.first, b" and ", c.second),
+        Action::Or => between(out, c.first, b" or ", c.second),
+        Action::Xor => between(out, c.first, b" xor ", c.second),
         Action::Smaller => {
-            say(b"signed smaller of ");
-            between(c.first, b" and ", c.second);
+            say(out, b"signed smaller of ");
+            between(out, c.first, b" and ", c.second);
         }
         Action::Larger => {
-            say(b"signed larger of ");
-            between(c.first, b" and ", c.second);
+            say(out, b"signed larger of ");
+            between(out, c.first, b" and ", c.second);
         }
     }
 }
 
 // Writes what a fold is of, in words.
-fn over_all(fold: Fold) {
+fn over_all(out: &impl Print, fold: Fold) {
     match fold {
-        Fold::Sum => say(b"sum of "),
-        Fold::Smallest => say(b"signed smallest of "),
-        Fold::Largest => say(b"signed largest of "),
-        Fold::FirstLargest => say(b"lane of the first signed largest of "),
+        Fold::Sum => say(out, b"sum of "),
+        Fold::Smallest => say(out, b"signed smallest of "),
+        Fold::Largest => say(out, b"signed largest of "),
+        Fold::FirstLargest => say(out, b"lane of the first signed largest of "),
     }
 }
 
 // Writes a calculation in words.
-pub fn calculation(c: Calculation) {
+pub fn calculation(out: &impl Print, c: Calculation) {
     let task = c.task;
-    register(c.destination);
-    say(b" = ");
+    register(out, c.destination);
+    say(out, b" = ");
     match task {
-        Task::Each(action) => lane_by_lane(action, c),
+        Task::Each(action) => lane_by_lane(out, action, c),
         Task::All(fold) => {
-            over_all(fold);
-            register(c.first);
+            over_all(out, fold);
+            register(out, c.first);
         }
     }
 }

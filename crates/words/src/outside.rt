@@ -46,30 +46,37 @@ fn lane_at(sheet: &[u8], m: Machine, place: usize, lane: usize, role: Role) -> L
     element_of(sheet, sheet.len(), i, n)
 }
 
-fn operand(role: Role) {
+fn operand(out: &impl Print, role: Role) {
     match role {
-        Role::First => say(b"first source"),
-        Role::Second => say(b"second source"),
-        Role::Destination => say(b"destination"),
+        Role::First => say(out, b"first source"),
+        Role::Second => say(out, b"second source"),
+        Role::Destination => say(out, b"destination"),
     }
 }
 
 // Writes an address between commas, if there is one.
-fn at_address(l: Located) {
+fn at_address(out: &impl Print, l: Located) {
     let Located::At(a) = l else {
         return;
     };
-    say(b", at address ");
-    signed(a.0);
-    say(b",");
+    say(out, b", at address ");
+    signed(out, a.0);
+    say(out, b",");
 }
 
 // Writes which lane of which operand lies outside memory, of the calculation at a place of a sheet that was run and left these registers.
-pub fn lane_outside(sheet: &[u8], m: Machine, place: usize, lane: usize, role: Role) {
-    say(b"lane ");
-    decimal(lane as u64);
-    say(b" of the ");
-    operand(role);
-    at_address(lane_at(sheet, m, place, lane, role));
-    say(b" lies outside memory");
+pub fn lane_outside(
+    out: &impl Print,
+    sheet: &[u8],
+    m: Machine,
+    place: usize,
+    lane: usize,
+    role: Role,
+) {
+    say(out, b"lane ");
+    decimal(out, lane as u64);
+    say(out, b" of the ");
+    operand(out, role);
+    at_address(out, lane_at(sheet, m, place, lane, role));
+    say(out, b" lies outside memory");
 }

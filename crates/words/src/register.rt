@@ -43,108 +43,111 @@ fn byte_at(lanes: [u8; 64], at: usize) -> u8 {
 }
 
 // Writes the lane whose first byte is at a place, highest byte first.
-fn value(lanes: [u8; 64], at: usize, width: u64) {
+fn value(out: &impl Print, lanes: [u8; 64], at: usize, width: u64) {
     let mut left = width;
     while 0 < left {
         left -= 1;
-        hex(byte_at(lanes, std::num::wrapping_add_usize(at, left as usize)));
+        hex(
+            out,
+            byte_at(lanes, std::num::wrapping_add_usize(at, left as usize)),
+        );
     }
 }
 
 // Writes the values of the valid lanes.
-fn values(lanes: [u8; 64], width: u64, valid: u64) {
+fn values(out: &impl Print, lanes: [u8; 64], width: u64, valid: u64) {
     let mut at = 0;
     let mut left = valid;
     while 0 < left {
-        say(b" ");
-        value(lanes, at, width);
+        say(out, b" ");
+        value(out, lanes, at, width);
         at = std::num::wrapping_add_usize(at, width as usize);
         left -= 1;
     }
 }
 
-fn told(t: Told, d: u64) {
+fn told(out: &impl Print, t: Told, d: u64) {
     match t {
-        Told::Yes => decimal(d),
-        Told::No => say(b"-"),
-        Told::Untold(why) => say(b" "),
+        Told::Yes => decimal(out, d),
+        Told::No => say(out, b"-"),
+        Told::Untold(why) => say(out, b" "),
     }
 }
 
 // Writes a mark for each of the seven flags of a register: the dimension's number if it is set, a dash if it is clear, and nothing
 // if there is no such flag.
-fn flags(m: Machine, i: usize) {
+fn flags(out: &impl Print, m: Machine, i: usize) {
     let mut d = 1;
     while d < 8 {
-        told(flag(m, i, d), d);
+        told(out, flag(m, i, d), d);
         d += 1;
     }
 }
 
-fn name(i: usize) {
-    register(i);
+fn name(out: &impl Print, i: usize) {
+    register(out, i);
     if i < 10 {
-        say(b" ");
+        say(out, b" ");
     }
 }
 
-fn state(s: State) {
+fn state(out: &impl Print, s: State) {
     match s {
-        State::Plain => say(b"  plain       "),
-        State::Configuring => say(b"  configuring "),
-        State::Open => say(b"  open        "),
-        State::Finished => say(b"  finished    "),
+        State::Plain => say(out, b"  plain       "),
+        State::Configuring => say(out, b"  configuring "),
+        State::Open => say(out, b"  open        "),
+        State::Finished => say(out, b"  finished    "),
     }
 }
 
-fn kind(k: Kind) {
+fn kind(out: &impl Print, k: Kind) {
     match k {
-        Kind::Load => say(b"load  "),
-        Kind::Store => say(b"store "),
+        Kind::Load => say(out, b"load  "),
+        Kind::Store => say(out, b"store "),
     }
 }
 
 // Writes a register's content: its valid lanes and their values.
-fn content(lanes: [u8; 64], width: u64, valid: u64) {
-    aligned(valid, 4);
+fn content(out: &impl Print, lanes: [u8; 64], width: u64, valid: u64) {
+    aligned(out, valid, 4);
     if valid == 1 {
-        say(b" lane ");
+        say(out, b" lane ");
     } else {
-        say(b" lanes");
+        say(out, b" lanes");
     }
-    values(lanes, width, valid);
-    say(b"\n");
+    values(out, lanes, width, valid);
+    say(out, b"\n");
 }
 
 // Writes a register's line: its name and state, and of a stream the kind; the width; of a stream the stops gone past and the flags;
 // the content.
-fn line(m: Machine, i: usize, r: Register) {
+fn line(out: &impl Print, m: Machine, i: usize, r: Register) {
     let s = r.state;
     let k = r.kind;
     let lanes = r.lanes;
-    name(i);
-    state(s);
+    name(out, i);
+    state(out, s);
     if is_plain(s) {
-        spaces(6);
-        width(r.width);
-        spaces(30);
+        spaces(out, 6);
+        width(out, r.width);
+        spaces(out, 30);
     } else {
-        kind(k);
-        width(r.width);
-        aligned(r.moved, 9);
-        say(b" moved  flags ");
-        flags(m, i);
+        kind(out, k);
+        width(out, r.width);
+        aligned(out, r.moved, 9);
+        say(out, b" moved  flags ");
+        flags(out, m, i);
     }
-    content(lanes, r.width, r.valid);
+    content(out, lanes, r.width, r.valid);
 }
 
 // Writes a line for each register that is not fresh.
-pub fn registers(m: Machine) {
+pub fn registers(out: &impl Print, m: Machine) {
     let mut i = 0;
     while i < 32 {
         let r = m.registers[i];
         if !is_fresh(r) {
-            line(m, i, r);
+            line(out, m, i, r);
         }
         i += 1;
     }

@@ -28,14 +28,14 @@ enum Onward {
 }
 
 // Writes the bytes of a sheet from a place up to another.
-fn bytes(sheet: &[u8], from: usize, to: usize) {
+fn bytes(out: &impl Print, sheet: &[u8], from: usize, to: usize) {
     let mut at = from;
     while at < to {
         if sheet.len() <= at {
             return;
         }
-        hex(sheet[at]);
-        say(b" ");
+        hex(out, sheet[at]);
+        say(out, b" ");
         at += 1;
     }
 }
@@ -49,41 +49,41 @@ fn gap(count: usize) -> usize {
 }
 
 // Writes the columns of a line in front of its words: the place, and the bytes up to another.
-fn columns(sheet: &[u8], place: usize, behind: usize) {
-    aligned(place as u64, 5);
-    say(b"  ");
-    bytes(sheet, place, behind);
+fn columns(out: &impl Print, sheet: &[u8], place: usize, behind: usize) {
+    aligned(out, place as u64, 5);
+    say(out, b"  ");
+    bytes(out, sheet, place, behind);
     if place <= behind {
-        spaces(gap(behind - place));
+        spaces(out, gap(behind - place));
     }
 }
 
 // The same where what stands at the place has no end that could be named: up to nine bytes, or eight and two dots.
-fn open_columns(sheet: &[u8], place: usize) {
+fn open_columns(out: &impl Print, sheet: &[u8], place: usize) {
     if sheet.len() <= place {
-        columns(sheet, place, place);
+        columns(out, sheet, place, place);
         return;
     }
     let left = sheet.len() - place;
     if left <= 9 {
-        columns(sheet, place, sheet.len());
+        columns(out, sheet, place, sheet.len());
         return;
     }
-    aligned(place as u64, 5);
-    say(b"  ");
-    bytes(sheet, place, place + 8);
-    say(b"..  ");
+    aligned(out, place as u64, 5);
+    say(out, b"  ");
+    bytes(out, sheet, place, place + 8);
+    say(out, b"..  ");
 }
 
 // Writes the line of what cannot be read.
-fn unreadable(sheet: &[u8], place: usize, words: &[u8]) {
-    open_columns(sheet, place);
+fn unreadable(out: &impl Print, sheet: &[u8], place: usize, words: &[u8]) {
+    open_columns(out, sheet, place);
     if sheet.len() <= place {
-        say(b"the sheet ends here\n");
+        say(out, b"the sheet ends here\n");
         return;
     }
-    say(words);
-    say(b"\n");
+    say(out, words);
+    say(out, b"\n");
 }
 
 fn given_to(given: [Given; 32], i: usize) -> Given {
@@ -179,25 +179,30 @@ fn over(w: Walk) -> Walk {
 }
 
 // Writes what the descriptors of an ended stream come to.
-fn extent(e: Extent) {
+fn extent(out: &impl Print, e: Extent) {
     let first = e.first;
     let last = e.last;
-    say(b": ");
-    counted(e.dims as u64, b"dimension, ", b"dimensions, ");
-    counted(e.mods as u64, b"modifier, ", b"modifiers, ");
+    say(out, b": ");
+    counted(out, e.dims as u64, b"dimension, ", b"dimensions, ");
+    counted(out, e.mods as u64, b"modifier, ", b"modifiers, ");
     if e.elements == 0 {
-        say(b"no elements");
+        say(out, b"no elements");
         return;
     }
-    counted(e.elements, b"element, first at ", b"elements, first at ");
-    signed(first.0);
-    say(b", last at ");
-    signed(last.0);
+    counted(
+        out,
+        e.elements,
+        b"element, first at ",
+        b"elements, first at ",
+    );
+    signed(out, first.0);
+    say(out, b", last at ");
+    signed(out, last.0);
 }
 
 // Writes the shape of the stream that an operation ends, if it does that: the outline after so many operations of the sheet, from a place
 // on. No register was being configured there, so that all operations on the stream, and on those begun with it, are among these.
-fn shape(sheet: &[u8], since: usize, most: usize, o: Operation) {
+fn shape(out: &impl Print, sheet: &[u8], since: usize, most: usize, o: Operation) {
     let Operation::End(i) = o else {
         return;
     };
@@ -208,39 +213,58 @@ fn shape(sheet: &[u8], since: usize, most: usize, o: Operation) {
     let Outline::Stream(e) = outline else {
         return;
     };
-    extent(e);
+    extent(out, e);
 }
 
 // Writes the line of an operation; if it stands before the last place, so that it is not refused, with the shape of a stream that it ends.
-fn operation_line(sheet: &[u8], w: Walk, o: Operation, behind: usize, last: usize) {
+fn operation_line(
+    out: &impl Print,
+    sheet: &[u8],
+    w: Walk,
+    o: Operation,
+    behind: usize,
+    last: usize,
+) {
     let i = register_of(o);
     let given = w.given;
-    columns(sheet, w.place, behind);
-    operation(o, given_to(given, i), w.opened == i);
+    columns(out, sheet, w.place, behind);
+    operation(out, o, given_to(given, i), w.opened == i);
     if w.place < last {
-        shape(sheet, w.since, std::num::wrapping_add_usize(w.passed, 1), o);
+        shape(
+            out,
+            sheet,
+            w.since,
+            std::num::wrapping_add_usize(w.passed, 1),
+            o,
+        );
     }
-    say(b"\n");
+    say(out, b"\n");
 }
 
 // Writes the line of the calculation at a place, if the place is one of those asked for.
-fn calculation_line(sheet: &[u8], place: usize, from: usize, to: usize) -> Onward {
+fn calculation_line(
+    out: &impl Print,
+    sheet: &[u8],
+    place: usize,
+    from: usize,
+    to: usize,
+) -> Onward {
     if to < place {
         return Onward::Over;
     }
     match decode_calculation(sheet, Cursor { at: place }) {
         Body::Calculation(c, next) => {
             if from <= place {
-                columns(sheet, place, next.at);
-                say(b"  ");
-                calculation(c);
-                say(b"\n");
+                columns(out, sheet, place, next.at);
+                say(out, b"  ");
+                calculation(out, c);
+                say(out, b"\n");
             }
             Onward::To(next.at)
         }
         Body::Refused(why, p) => {
             if from <= place {
-                unreadable(sheet, place, b"  cannot be read");
+                unreadable(out, sheet, place, b"  cannot be read");
             }
             Onward::Over
         }
@@ -248,11 +272,11 @@ fn calculation_line(sheet: &[u8], place: usize, from: usize, to: usize) -> Onwar
 }
 
 // Writes the lines of a run's calculations, and of bytes after them.
-fn body(sheet: &[u8], count: u64, start: usize, from: usize, to: usize) {
+fn body(out: &impl Print, sheet: &[u8], count: u64, start: usize, from: usize, to: usize) {
     let mut at = start;
     let mut left = count;
     while 0 < left {
-        let Onward::To(next) = calculation_line(sheet, at, from, to) else {
+        let Onward::To(next) = calculation_line(out, sheet, at, from, to) else {
             return;
         };
         at = next;
@@ -261,11 +285,11 @@ fn body(sheet: &[u8], count: u64, start: usize, from: usize, to: usize) {
     if to < at || at < from || sheet.len() <= at {
         return;
     }
-    unreadable(sheet, at, b"bytes after the run");
+    unreadable(out, sheet, at, b"bytes after the run");
 }
 
 // Writes the line of the operation at which a walk stands, and of a run those of its body, if the places are among those asked for.
-fn step(sheet: &[u8], w: Walk, from: usize, to: usize) -> Walk {
+fn step(out: &impl Print, sheet: &[u8], w: Walk, from: usize, to: usize) -> Walk {
     let place = w.place;
     if to < place {
         return over(w);
@@ -276,17 +300,17 @@ fn step(sheet: &[u8], w: Walk, from: usize, to: usize) -> Walk {
     match decode(sheet, Cursor { at: place }) {
         Decoded::Refused(why, p) => {
             if from <= place {
-                unreadable(sheet, place, b"cannot be read");
+                unreadable(out, sheet, place, b"cannot be read");
             }
             over(w)
         }
         Decoded::Operation(o, next) => {
             let behind = next.at;
             if from <= place {
-                operation_line(sheet, w, o, behind, to);
+                operation_line(out, sheet, w, o, behind, to);
             }
             if let Operation::Run(i, n) = o {
-                body(sheet, n, behind, from, to);
+                body(out, sheet, n, behind, from, to);
                 return over(w);
             }
             passed_by(w, o, behind)
@@ -296,7 +320,7 @@ fn step(sheet: &[u8], w: Walk, from: usize, to: usize) -> Walk {
 
 // Writes a line for each operation and calculation of a sheet whose place is one from a first to a last, up to one that cannot be read.
 // The last is that of a refusal, if there is one, or the sheet's end.
-pub fn lines(sheet: &[u8], first: usize, last: usize) {
+pub fn lines(out: &impl Print, sheet: &[u8], first: usize, last: usize) {
     let mut walk = Walk {
         place: 0,
         since: 0,
@@ -311,7 +335,7 @@ pub fn lines(sheet: &[u8], first: usize, last: usize) {
         if walk.over {
             return;
         }
-        walk = step(sheet, walk, first, last);
+        walk = step(out, sheet, walk, first, last);
         left -= 1;
     }
 }

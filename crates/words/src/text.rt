@@ -1,34 +1,42 @@
-// Numbers and words on standard output.
+// Numbers and words on standard output, or on what else prints.
 ghost use Rattle.std.specs.Prelude.{◌≡◌, unsigned_abs};
 
-use libc::STDOUT_FILENO;
-
 // Writes some text.
-pub fn say(text: &[u8]) {
-    io::write_all(STDOUT_FILENO, text);
+pub fn say(out: &impl Print, text: &[u8]) {
+    let _ = out.write_all(text);
 }
 
 // Writes so many spaces, at most 64.
-pub fn spaces(count: usize) {
+pub fn spaces(out: &impl Print, count: usize) {
     let blank = [b' '; 64];
     if count <= 64 {
-        io::write_all(STDOUT_FILENO, &blank[..count]);
+        say(out, &blank[..count]);
     }
 }
 
 // Writes a number.
-pub fn decimal(n: u64) {
-    io::print_decimal(STDOUT_FILENO, n);
+pub fn decimal(out: &impl Print, n: u64) {
+    let _ = out.print(n);
+}
+
+// How many decimal digits a number has.
+fn digits(n: u64) -> usize {
+    let mut count = 1;
+    let mut rest = n / 10;
+    while 0 < rest {
+        rest /= 10;
+        count += 1;
+    }
+    count
 }
 
 // Writes a number, with spaces in front up to so many characters.
-pub fn aligned(n: u64, width: usize) {
-    let mut digits = [0u8; 20];
-    let count = io::decimal(n, &mut digits);
+pub fn aligned(out: &impl Print, n: u64, width: usize) {
+    let count = digits(n);
     if count < width {
-        spaces(width - count);
+        spaces(out, width - count);
     }
-    io::write_all(STDOUT_FILENO, &digits[..count]);
+    decimal(out, n);
 }
 
 // A number without its sign.
@@ -43,31 +51,31 @@ pub fn magnitude(z: i64) -> u64
 }
 
 // Writes a number, with a minus sign if it is below 0.
-pub fn signed(z: i64) {
+pub fn signed(out: &impl Print, z: i64) {
     if z < 0 {
-        say(b"-");
+        say(out, b"-");
     }
-    decimal(magnitude(z));
+    decimal(out, magnitude(z));
 }
 
 // Writes a byte as two hexadecimal digits.
-pub fn hex(byte: u8) {
-    io::print_hex(STDOUT_FILENO, byte as u64, 2);
+pub fn hex(out: &impl Print, byte: u8) {
+    let _ = out.print(format_args!("{byte:02x}"));
 }
 
 // Writes a number and the word for it: one of a thing, or several.
-pub fn counted(n: u64, one: &[u8], several: &[u8]) {
-    decimal(n);
-    say(b" ");
+pub fn counted(out: &impl Print, n: u64, one: &[u8], several: &[u8]) {
+    decimal(out, n);
+    say(out, b" ");
     if n == 1 {
-        say(one);
+        say(out, one);
     } else {
-        say(several);
+        say(out, several);
     }
 }
 
 // Writes a register's name.
-pub fn register(i: usize) {
-    say(b"u");
-    decimal(i as u64);
+pub fn register(out: &impl Print, i: usize) {
+    say(out, b"u");
+    decimal(out, i as u64);
 }
