@@ -8,24 +8,24 @@ use native.Mathlib.Numerals.{add-one, sub-one}
 use native.Mathlib.Omega.{arith}
 use native.Mathlib.Nat.{one-le-pow, pow-succ', pow-le-pow_right}
 use borrow.Author.Tests.{lt-ltb, le-ltb}
-use Rattle.codec.specs.declared.number.Number.TheVariants.{Value, NoNumber}
+use Rattle.std.specs.Prelude.{Some, None}
 use Rattle.codec.specs.Numbers.{groups_at, above}
 
-pub groups_none : (n at : ℕ) (l : List ℕ) → n ≡ 0 → groups_at n at l ≡ NoNumber
+pub groups_none : (n at : ℕ) (l : List ℕ) → n ≡ 0 → groups_at n at l ≡ None
 unfolding groups_at
 groups_none zero at l e = refl
 groups_none (suc n) at l e = absurd (omega arith)
 
-pub groups-cut : (n at : ℕ) (s : List ℕ) → length s ≤ at → groups_at n at (drop at s) ≡ NoNumber
+pub groups-cut : (n at : ℕ) (s : List ℕ) → length s ≤ at → groups_at n at (drop at s) ≡ None
 unfolding groups_at
 groups-cut zero at s h = refl
 groups-cut (suc n) at s h = rw (drop_of_length-le s h)
 
 module _ (n at : ℕ) (s : List ℕ) (some : n ≡ 0 → ⊥) (within : at < length s) where
-  pub groups-last : get_or s at 0 < 128 → groups_at n at (drop at s) ≡ Value (get_or s at 0) (record { at = at + 1 })
+  pub groups-last : get_or s at 0 < 128 → groups_at n at (drop at s) ≡ Some (get_or s at 0, record { at = at + 1 })
   groups-last h = go n some
     where
-      go : (k : ℕ) → (k ≡ 0 → ⊥) → groups_at k at (drop at s) ≡ Value (get_or s at 0) (record { at = at + 1 })
+      go : (k : ℕ) → (k ≡ 0 → ⊥) → groups_at k at (drop at s) ≡ Some (get_or s at 0, record { at = at + 1 })
       go zero p = absurd (p refl)
       go (suc k) p = unfold groups_at in rw (drop-cons s at 0 within, lt-ltb (get_or s at 0) 128 h)
 

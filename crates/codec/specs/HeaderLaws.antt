@@ -5,17 +5,14 @@
 --   width_back, width-there       widths and their codes
 --   header-written, word_below    written then read
 --   header_read                   read then written
-use Rattle.std.specs.Prelude.{ℕ, zero, suc, ◌+◌, ◌-◌, ◌*◌, ◌/◌, ◌≤◌, ◌<◌, ◌≡◌, refl, Bool, true, false, cond, not, ◌&&◌, ◌||◌, leb, eqb}
+use Rattle.std.specs.Prelude.{ℕ, zero, suc, ◌+◌, ◌-◌, ◌*◌, ◌/◌, ◌≤◌, ◌<◌, ◌≡◌, refl, Bool, true, false, Ok, Err, cond, not, ◌&&◌, ◌||◌, leb, eqb, Option, Some, None}
 use Rattle.std.proofs.Common.{ap, arith, leb-true, eqb-true, ne_eqb, le-leb}
 use Rattle.std.proofs.lemmas.Bool.{eqb-false, not-true}
 use Rattle.codec.specs.declared.header.Kind.{Kind}
 use Rattle.codec.specs.declared.header.Kind.TheVariants.{Load, Store}
 use Rattle.codec.specs.declared.header.Width.{Width}
 use Rattle.codec.specs.declared.header.Width.TheVariants.{B, H, W, D}
-use Rattle.codec.specs.declared.header.Coupling.{Coupling}
-use Rattle.codec.specs.declared.header.Coupling.TheVariants.{Uncoupled, Coupled}
 use Rattle.codec.specs.declared.header.Header.{Header}
-use Rattle.codec.specs.declared.header.Word.TheVariants.{Said, Refused}
 use Rattle.codec.specs.declared.refusal.Refusal.TheVariants.{FixedBits, NotCarried}
 use Rattle.codec.specs.TestLaws.{both, either}
 use Rattle.codec.specs.Headers.{bits_of, fixed_bits, clear_bits, width_coded, header_said, header_of, coupling_in_range, header_in_range, kind_code, width_code, coupling_code, word_of, free_bits}
@@ -106,30 +103,30 @@ module _ (w r width kind d coupled : ℕ) (l : Laid w r width kind d coupled) wh
 -- ---- written, then read
 
 -- bits 29-27 of a coupling: "coupled dimension less one", 000 if uncoupled
-abbrev dimension_bits : Coupling → ℕ
-dimension_bits Uncoupled = 0
-dimension_bits (Coupled d) = d - 1
+abbrev dimension_bits : Option ℕ → ℕ
+dimension_bits None = 0
+dimension_bits (Some d) = d - 1
 
 -- bit 30 of a coupling: 1 if it is coupled
-abbrev coupled_bit : Coupling → ℕ
-coupled_bit Uncoupled = 0
-coupled_bit (Coupled d) = 1
+abbrev coupled_bit : Option ℕ → ℕ
+coupled_bit None = 0
+coupled_bit (Some d) = 1
 
 -- the code of a coupling in range is its bits 29-27, below 111, and its bit 30
-coupling-bits : (c : Coupling) → coupling_in_range c ≡ true
+coupling-bits : (c : Option ℕ) → coupling_in_range c ≡ true
     → (coupling_code c ≡ dimension_bits c * 134217728 + coupled_bit c * 1073741824) × (dimension_bits c < 7) × (coupled_bit c < 2)
-coupling-bits Uncoupled e = (omega arith, omega arith, omega arith)
-coupling-bits (Coupled d) e = let r = coupled-range d e in (omega arith, omega arith, omega arith)
+coupling-bits None e = (omega arith, omega arith, omega arith)
+coupling-bits (Some d) e = let r = coupled-range d e in (omega arith, omega arith, omega arith)
 
 -- "Uncoupled needs 29-27 = 000": so it is with the bits of any coupling
-coupling-fixed : (c : Coupling) → (eqb (coupled_bit c) 1 || eqb (dimension_bits c) 0) ≡ true
-coupling-fixed Uncoupled = refl
-coupling-fixed (Coupled d) = refl
+coupling-fixed : (c : Option ℕ) → (eqb (coupled_bit c) 1 || eqb (dimension_bits c) 0) ≡ true
+coupling-fixed None = refl
+coupling-fixed (Some d) = refl
 
 -- a coupling in range is read back from its bits
-coupling-back : (c : Coupling) → coupling_in_range c ≡ true → cond (eqb (coupled_bit c) 1) (Coupled (dimension_bits c + 1)) Uncoupled ≡ c
-coupling-back Uncoupled e = refl
-coupling-back (Coupled d) e = let r = coupled-range d e in let z : d - 1 + 1 ≡ d = omega arith in ap Coupled z
+coupling-back : (c : Option ℕ) → coupling_in_range c ≡ true → cond (eqb (coupled_bit c) 1) (Some (dimension_bits c + 1)) None ≡ c
+coupling-back None e = refl
+coupling-back (Some d) e = let r = coupled-range d e in let z : d - 1 + 1 ≡ d = omega arith in ap Some z
 
 -- a kind is read back from its code
 kind-back : (k : Kind) → cond (eqb (kind_code k) 0) Store Load ≡ k
@@ -180,7 +177,7 @@ pub word_below : (h : Header) (free : ℕ) → header_in_range h ≡ true → Is
 word_below h free e f = word_small _ _ _ _ _ _ (laid h free e f)
 
 -- a word put together of its fields has its fixed bits right
-fixed-laid : (w r width kind : ℕ) (c : Coupling) → Laid w r width kind (dimension_bits c) (coupled_bit c) → fixed_bits w ≡ true
+fixed-laid : (w r width kind : ℕ) (c : Option ℕ) → Laid w r width kind (dimension_bits c) (coupled_bit c) → fixed_bits w ≡ true
 fixed-laid w r width kind c l =
     rw (
       fixed-0 w r width kind (dimension_bits c) (coupled_bit c) l,
@@ -214,7 +211,7 @@ said-laid w h e l =
     )
 
 -- a header in range is read back from its word, whatever the free bits
-pub header-written : (h : Header) (free : ℕ) → header_in_range h ≡ true → IsFree free → header_of (word_of h + free) ≡ Said h
+pub header-written : (h : Header) (free : ℕ) → header_in_range h ≡ true → IsFree free → header_of (word_of h + free) ≡ Ok h
 unfolding header_of
 header-written h free e f =
     let l = laid h free e f in
@@ -223,11 +220,11 @@ header-written h free e f =
 -- ---- read, then written
 
 -- a word that was not refused has its fixed bits right, neither m nor inds set, and says its header
-said : (w : ℕ) (h : Header) → header_of w ≡ Said h → (fixed_bits w ≡ true) × (clear_bits w ≡ true) × (header_said w ≡ h)
+said : (w : ℕ) (h : Header) → header_of w ≡ Ok h → (fixed_bits w ≡ true) × (clear_bits w ≡ true) × (header_said w ≡ h)
 unfolding header_of
 said w h e = go (fixed_bits w) (clear_bits w) refl refl e
   where
-    go : (f c : Bool) → fixed_bits w ≡ f → clear_bits w ≡ c → cond f (cond c (Said (header_said w)) (Refused NotCarried)) (Refused FixedBits) ≡ Said h
+    go : (f c : Bool) → fixed_bits w ≡ f → clear_bits w ≡ c → cond f (cond c (Ok (header_said w)) (Err NotCarried)) (Err FixedBits) ≡ Ok h
         → (fixed_bits w ≡ true) × (clear_bits w ≡ true) × (header_said w ≡ h)
     go true true p q z = (p, q, (cc))
     go true false p q z = absurd (let z : ◌≡◌ {A = ℕ} 0 1 = cc in omega arith)
@@ -247,12 +244,12 @@ kind-there (suc n) h = rw (ne_eqb (suc n) 0 (λ q. omega arith)) (omega arith)
 
 -- bits 30 and 29-27 that are not refused are the code of the coupling that they say, which is in range
 coupling-there : (d e : ℕ) → d < 8 → e < 2 → not (eqb d 7) ≡ true → (eqb e 1 || eqb d 0) ≡ true
-    → (coupling_code (cond (eqb e 1) (Coupled (d + 1)) Uncoupled) ≡ d * 134217728 + e * 1073741824)
-    × (coupling_in_range (cond (eqb e 1) (Coupled (d + 1)) Uncoupled) ≡ true)
+    → (coupling_code (cond (eqb e 1) (Some (d + 1)) None) ≡ d * 134217728 + e * 1073741824)
+    × (coupling_in_range (cond (eqb e 1) (Some (d + 1)) None) ≡ true)
 coupling-there d e h k n f = go (eqb e 1) refl
   where
     go : (t : Bool) → eqb e 1 ≡ t
-        → (coupling_code (cond t (Coupled (d + 1)) Uncoupled) ≡ d * 134217728 + e * 1073741824) × (coupling_in_range (cond t (Coupled (d + 1)) Uncoupled) ≡ true)
+        → (coupling_code (cond t (Some (d + 1)) None) ≡ d * 134217728 + e * 1073741824) × (coupling_in_range (cond t (Some (d + 1)) None) ≡ true)
     go true t =
         let z : e ≡ 1 = eqb-true e 1 t in
         let y : d ≡ 7 → ⊥ = eqb-false d 7 (not-true (eqb d 7) n) in
@@ -345,7 +342,7 @@ fixed-parts w f c =
     }
 
 -- a word that was read is the word of what it says, with its free bits
-pub header_read : (w : ℕ) (h : Header) → w < 4294967296 → header_of w ≡ Said h → (w ≡ word_of h + free_bits w) × (header_in_range h ≡ true)
+pub header_read : (w : ℕ) (h : Header) → w < 4294967296 → header_of w ≡ Ok h → (w ≡ word_of h + free_bits w) × (header_in_range h ≡ true)
 unfolding header_said word_of free_bits
 header_read w h k e =
     let p = said w h e in

@@ -6,16 +6,13 @@
 --   header_of                     a word read
 --   header_in_range                what can be written
 --   word_of, free_bits             a header as a word, and the bits that its reader does not look at
-use Rattle.std.specs.Prelude.{ℕ, zero, suc, ◌+◌, ◌-◌, ◌*◌, ◌/◌, ◌%◌, ◌^◌, Bool, true, cond, not, ◌&&◌, ◌||◌, leb, eqb}
+use Rattle.std.specs.Prelude.{ℕ, zero, suc, ◌+◌, ◌-◌, ◌*◌, ◌/◌, ◌%◌, ◌^◌, Bool, true, Result, Ok, Err, cond, not, ◌&&◌, ◌||◌, leb, eqb, Option, Some, None}
 use Rattle.codec.specs.declared.header.Kind.{Kind}
 use Rattle.codec.specs.declared.header.Kind.TheVariants.{Load, Store}
 use Rattle.codec.specs.declared.header.Width.{Width}
 use Rattle.codec.specs.declared.header.Width.TheVariants.{B, H, W, D}
-use Rattle.codec.specs.declared.header.Coupling.{Coupling}
-use Rattle.codec.specs.declared.header.Coupling.TheVariants.{Uncoupled, Coupled}
 use Rattle.codec.specs.declared.header.Header.{Header}
-use Rattle.codec.specs.declared.header.Word.{Word}
-use Rattle.codec.specs.declared.header.Word.TheVariants.{Said, Refused}
+use Rattle.codec.specs.declared.refusal.Refusal.{Refusal}
 use Rattle.codec.specs.declared.refusal.Refusal.TheVariants.{FixedBits, NotCarried}
 
 -- bits lo to lo + n - 1 of a word
@@ -58,21 +55,21 @@ bytes_of W = 4
 bytes_of D = 8
 
 -- "29-27 coupled dimension less one, 30 coupled"
-abbrev pub coupling_of : ℕ → Coupling
-coupling_of w = cond (eqb (bits_of 30 1 w) 1) (Coupled (bits_of 27 3 w + 1)) Uncoupled
+abbrev pub coupling_of : ℕ → Option ℕ
+coupling_of w = cond (eqb (bits_of 30 1 w) 1) (Some (bits_of 27 3 w + 1)) None
 
 -- what a word says: its kind, its width, "11-7 the register" and its coupling
 unfoldable pub header_said : ℕ → Header
 header_said w = record { kind = kind_of w; width = width_of w; register = bits_of 7 5 w; coupling = coupling_of w }
 
 -- 3 for the fixed bits, then 4 for m or inds
-unfoldable pub header_of : ℕ → Word
-header_of w = cond (fixed_bits w) (cond (clear_bits w) (Said (header_said w)) (Refused NotCarried)) (Refused FixedBits)
+unfoldable pub header_of : ℕ → Result Header Refusal
+header_of w = cond (fixed_bits w) (cond (clear_bits w) (Ok (header_said w)) (Err NotCarried)) (Err FixedBits)
 
 -- a coupled dimension is 1 to 7
-abbrev pub coupling_in_range : Coupling → Bool
-coupling_in_range Uncoupled = true
-coupling_in_range (Coupled d) = leb 1 d && leb d 7
+abbrev pub coupling_in_range : Option ℕ → Bool
+coupling_in_range None = true
+coupling_in_range (Some d) = leb 1 d && leb d 7
 
 -- the fields that a word has room for
 abbrev pub header_in_range : Header → Bool
@@ -91,9 +88,9 @@ width_code W = 2
 width_code D = 3
 
 -- "29-27 coupled dimension less one, 30 coupled": what these bits are worth in the word of a coupling
-abbrev pub coupling_code : Coupling → ℕ
-coupling_code Uncoupled = 0
-coupling_code (Coupled d) = 1073741824 + (d - 1) * 134217728
+abbrev pub coupling_code : Option ℕ → ℕ
+coupling_code None = 0
+coupling_code (Some d) = 1073741824 + (d - 1) * 134217728
 
 -- the word of a header, bits 19-15 and 23-22 zero
 unfoldable pub word_of : Header → ℕ

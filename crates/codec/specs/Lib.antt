@@ -1,5 +1,6 @@
 pub mod TestLaws
 pub mod Refusals
+pub mod Pairs
 pub mod Numbers
 pub mod NumberLaws
 pub mod StandingLaws

@@ -5,34 +5,34 @@
 --   signed_of, as_signed, signed_at     reading a signed number
 --   groups_of, number_bytes  the groups of a number
 --   unsigned_of             how a signed number is written
---   value_of                the value of an answer
-use Rattle.std.specs.Prelude.{ℕ, zero, suc, ◌+◌, ◌-◌, ◌*◌, ◌%◌, ◌/◌, List, [], ◌∷◌, cond, drop, ltb, eqb, ℤ, pos, negsuc}
-use Rattle.codec.specs.declared.number.Number.{Number}
-use Rattle.codec.specs.declared.number.Number.TheVariants.{Value, NoNumber}
-use Rattle.codec.specs.declared.number.Signed.{Signed}
-use Rattle.codec.specs.declared.number.Signed.TheVariants.{Whole, NoWhole}
+--   Number, Signed          what reading a number, or a signed one, gives
+use Rattle.std.specs.Prelude.{ℕ, zero, suc, ◌+◌, ◌-◌, ◌*◌, ◌%◌, ◌/◌, List, [], ◌∷◌, Option, Some, None, cond, drop, ltb, eqb, ℤ, pos, negsuc}
+use Rattle.codec.specs.declared.number.Cursor.{Cursor}
 
--- the value of an answer, 0 if there is no number
-abbrev pub value_of : Number → ℕ
-value_of (Value v c) = v
-value_of NoNumber = 0
+-- "hands back the value together with its moved place": a number and the place behind it, or no number
+abbrev pub Number : Type 0
+Number = Option (ℕ × Cursor)
+
+-- the same for a signed number
+abbrev pub Signed : Type 0
+Signed = Option (ℤ × Cursor)
 
 -- "lowest group first; the high bit is set on every group but the last", "shortest form only":
 -- a group with its high bit set, below the number that the groups after it give; if that is 0 the form is not the shortest
 abbrev pub above : ℕ → Number → Number
-above b (Value v c) = cond (eqb v 0) NoNumber (Value (b - 128 + 128 * v) c)
-above b NoNumber = NoNumber
+above b (Some (v, c)) = cond (eqb v 0) None (Some (b - 128 + 128 * v, c))
+above b None = None
 
 -- the number that the bytes at a place give, at most n groups of them
 unfoldable pub groups_at : ℕ → ℕ → List ℕ → Number
-groups_at zero at l = NoNumber
-groups_at (suc n) at [] = NoNumber
-groups_at (suc n) at (b ∷ l) = cond (ltb b 128) (Value b (record { at = at + 1 })) (above b (groups_at n (at + 1) l))
+groups_at zero at l = None
+groups_at (suc n) at [] = None
+groups_at (suc n) at (b ∷ l) = cond (ltb b 128) (Some (b, record { at = at + 1 })) (above b (groups_at n (at + 1) l))
 
 -- "2^32 or more counts as too long"
 abbrev pub not_too_long : Number → Number
-not_too_long (Value v c) = cond (ltb v 4294967296) (Value v c) NoNumber
-not_too_long NoNumber = NoNumber
+not_too_long (Some (v, c)) = cond (ltb v 4294967296) (Some (v, c)) None
+not_too_long None = None
 
 -- "At most five groups": the number at a place of a sheet
 unfoldable pub number_at : List ℕ → ℕ → Number
@@ -49,8 +49,8 @@ signed_of n = cond (eqb (n % 2) 0) (pos (n / 2)) (negsuc (n / 2))
 
 -- an answer read as signed: what its number stands for, with the same place behind it
 abbrev pub as_signed : Number → Signed
-as_signed (Value v c) = Whole (signed_of v) c
-as_signed NoNumber = NoWhole
+as_signed (Some (v, c)) = Some (signed_of v, c)
+as_signed None = None
 
 -- the signed number at a place of a sheet
 abbrev pub signed_at : List ℕ → ℕ → Signed

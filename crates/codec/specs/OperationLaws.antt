@@ -7,7 +7,7 @@
 --   task-before, second-before                 the codes up to 7 are read as they were
 --   operation-written, calculation-written     written then read
 --   operation-read, calculation-read           read then written
-use Rattle.std.specs.Prelude.{ℕ, zero, suc, ◌+◌, ◌-◌, ◌≤◌, ◌<◌, ◌≡◌, refl, Bool, true, false, cond, not, ◌&&◌, ◌||◌, length, leb, ℤ, negsuc, nat_abs}
+use Rattle.std.specs.Prelude.{ℕ, zero, suc, ◌+◌, ◌-◌, ◌≤◌, ◌<◌, ◌≡◌, refl, Bool, true, false, Option, Some, None, Result, Ok, Err, cond, not, ◌&&◌, ◌||◌, length, leb, ℤ, negsuc, nat_abs}
 use Rattle.std.proofs.Common.{sym, ◌∙◌, ap, arith, length-append}
 use mathlib.Core.List.{List, ◌++◌, append_assoc}
 use Rattle.std.proofs.Math.Dec.{eqb}
@@ -16,13 +16,7 @@ use Rattle.std.specs.Int.Signed.{non_neg}
 use borrow.Author.Tests.{leb-true, leb-false, le-leb, le-ltb}
 use Rattle.codec.specs.declared.amounts.Bytes.{Bytes}
 use Rattle.codec.specs.declared.number.Cursor.{Cursor}
-use Rattle.codec.specs.declared.number.Number.{Number}
-use Rattle.codec.specs.declared.number.Number.TheVariants.{Value, NoNumber}
-use Rattle.codec.specs.declared.number.Signed.{Signed}
-use Rattle.codec.specs.declared.number.Signed.TheVariants.{Whole, NoWhole}
 use Rattle.codec.specs.declared.header.Header.{Header}
-use Rattle.codec.specs.declared.header.Word.{Word}
-use Rattle.codec.specs.declared.header.Word.TheVariants as word
 use Rattle.codec.specs.declared.operation.Dimension.{Dimension}
 use Rattle.codec.specs.declared.operation.Parameter.{Parameter}
 use Rattle.codec.specs.declared.operation.Parameter.TheVariants as parameter
@@ -38,28 +32,28 @@ use Rattle.codec.specs.declared.operation.Fold.TheVariants as fold
 use Rattle.codec.specs.declared.operation.Task.{Task}
 use Rattle.codec.specs.declared.operation.Task.TheVariants as task
 use Rattle.codec.specs.declared.operation.Calculation.{Calculation}
-use Rattle.codec.specs.declared.operation.Decoded.TheVariants as decoded
-use Rattle.codec.specs.declared.operation.Body.TheVariants as body
 use Rattle.codec.specs.declared.refusal.Refusal.{Refusal}
 use Rattle.codec.specs.declared.refusal.Refusal.TheVariants.{BadNumber, OutOfRange}
+use Rattle.codec.specs.Refusals.{err_at}
 use Rattle.codec.specs.Numbers.{number_at, signed_at, number_bytes}
 use Rattle.codec.specs.NumberLaws.{AreBytes, Stands, stands-join, number-below, number-written, number_read, number-some, signed-written, signed-read}
 use Rattle.codec.specs.Headers.{header_of, header_in_range, word_of, free_bits}
+use Rattle.codec.specs.Pairs.{ok-pair}
 use Rattle.codec.specs.TestLaws.{both, and_both, or-none}
 use Rattle.codec.specs.RangeLaws.{reach-small}
 use Rattle.codec.specs.HeaderLaws.{IsFree, free-none, free-bits, word_below, header-written, header_read}
-use Rattle.codec.specs.Operations.{field, signed_field, any_number, up_to, is_register, is_base, is_size, is_reach, is_displacement, is_count, parameter_coded, behaviour_coded, action_coded, fold_coded, task_coded, open_of, open_at, dimension_at, modifier_at, end_at, run_at, operation_numbered, operation_at, has_one_source, is_second, calculation_at, parameter_code, behaviour_code, action_code, fold_code, task_code, base_in_range, operation_in_range, signed_bytes, operation_bytes, calculation_in_range, calculation_bytes}
+use Rattle.codec.specs.Operations.{Decoded, Body, field, any_number, up_to, is_register, is_base, is_size, is_reach, is_displacement, is_count, parameter_coded, behaviour_coded, action_coded, fold_coded, task_coded, open_of, open_at, dimension_at, modifier_at, end_at, run_at, operation_numbered, operation_at, has_one_source, is_second, calculation_at, parameter_code, behaviour_code, action_code, fold_code, task_code, base_in_range, operation_in_range, signed_bytes, operation_bytes, calculation_in_range, calculation_bytes}
 
 -- ---- written, then read
 
 -- a number is read back, with the place behind it as a length
 read : (s pre post : List ℕ) (v : ℕ) → v < 4294967296 → s ≡ pre ++ (number_bytes v ++ post)
-    → number_at s (length pre) ≡ Value v (record { at = length (pre ++ number_bytes v) })
+    → number_at s (length pre) ≡ Some (v, record { at = length (pre ++ number_bytes v) })
 read s pre post v h e = rw (length-append pre (number_bytes v)) (number-written s pre post v h e)
 
 -- the same for an offset or a stride
 read-signed : (s pre post : List ℕ) (z : ℤ) → is_reach z ≡ true → s ≡ pre ++ (signed_bytes z ++ post)
-    → signed_at s (length pre) ≡ Whole z (record { at = length (pre ++ signed_bytes z) })
+    → signed_at s (length pre) ≡ Some (z, record { at = length (pre ++ signed_bytes z) })
 read-signed s pre post z h e = rw (length-append pre (signed_bytes z)) (signed-written s pre post z (reach-small z h).0 e)
 
 -- what is at most so much is below 2^32
@@ -150,7 +144,7 @@ three s pre post n0 n1 n2 e =
 module _ (s pre post : List ℕ) where
   -- an open that was written is read back
   open-written : (free : ℕ) (h : Header) (b : Bytes) → IsFree free → operation_in_range (op.Open h b) ≡ true → s ≡ pre ++ (operation_bytes free (op.Open h b) ++ post)
-      → operation_at s (length pre) ≡ decoded.Operation (op.Open h b) (record { at = length (pre ++ operation_bytes free (op.Open h b)) })
+      → operation_at s (length pre) ≡ Ok (op.Open h b, record { at = length (pre ++ operation_bytes free (op.Open h b)) })
   unfolding operation_in_range operation_bytes operation_at open_at
   open-written free h b f r e =
       let rh = (both (header_in_range h) (base_in_range b) r).0 in
@@ -171,7 +165,7 @@ module _ (s pre post : List ℕ) where
 
   -- a dimension that was written is read back
   dimension-written : (free : ℕ) (d : Dimension) → operation_in_range (op.Dimension d) ≡ true → s ≡ pre ++ (operation_bytes free (op.Dimension d) ++ post)
-      → operation_at s (length pre) ≡ decoded.Operation (op.Dimension d) (record { at = length (pre ++ operation_bytes free (op.Dimension d)) })
+      → operation_at s (length pre) ≡ Ok (op.Dimension d, record { at = length (pre ++ operation_bytes free (op.Dimension d)) })
   unfolding operation_in_range operation_bytes operation_at dimension_at
   dimension-written free d r e =
       let r3 = both (is_register d.register && is_reach d.offset.0 && is_size d.size) (is_reach d.stride.0) r in
@@ -203,7 +197,7 @@ module _ (s pre post : List ℕ) where
 
   -- a modifier that was written is read back
   modifier-written : (free : ℕ) (m : Modifier) → operation_in_range (op.Modifier m) ≡ true → s ≡ pre ++ (operation_bytes free (op.Modifier m) ++ post)
-      → operation_at s (length pre) ≡ decoded.Operation (op.Modifier m) (record { at = length (pre ++ operation_bytes free (op.Modifier m)) })
+      → operation_at s (length pre) ≡ Ok (op.Modifier m, record { at = length (pre ++ operation_bytes free (op.Modifier m)) })
   unfolding operation_in_range operation_bytes operation_at modifier_at
   modifier-written free m r e =
       let r2 = both (is_register m.register && up_to 6 m.target) (is_displacement m.displacement) r in
@@ -242,7 +236,7 @@ module _ (s pre post : List ℕ) where
 
   -- an end that was written is read back
   end-written : (free register : ℕ) → operation_in_range (op.End register) ≡ true → s ≡ pre ++ (operation_bytes free (op.End register) ++ post)
-      → operation_at s (length pre) ≡ decoded.Operation (op.End register) (record { at = length (pre ++ operation_bytes free (op.End register)) })
+      → operation_at s (length pre) ≡ Ok (op.End register, record { at = length (pre ++ operation_bytes free (op.End register)) })
   unfolding operation_in_range operation_bytes operation_at end_at
   end-written free register r e =
       let n0 = number_bytes 4 in
@@ -254,7 +248,7 @@ module _ (s pre post : List ℕ) where
 
   -- a run that was written is read back, up to its count
   run-written : (free register count : ℕ) → operation_in_range (op.Run register count) ≡ true → s ≡ pre ++ (operation_bytes free (op.Run register count) ++ post)
-      → operation_at s (length pre) ≡ decoded.Operation (op.Run register count) (record { at = length (pre ++ operation_bytes free (op.Run register count)) })
+      → operation_at s (length pre) ≡ Ok (op.Run register count, record { at = length (pre ++ operation_bytes free (op.Run register count)) })
   unfolding operation_in_range operation_bytes operation_at run_at
   run-written free register count r e =
       let rr = both (is_register register) (is_count count) r in
@@ -273,7 +267,7 @@ module _ (s pre post : List ℕ) where
 
   -- an operation in range that was written is read back, after anything and before anything
   pub operation-written : (free : ℕ) (o : Operation) → IsFree free → operation_in_range o ≡ true → s ≡ pre ++ (operation_bytes free o ++ post)
-      → operation_at s (length pre) ≡ decoded.Operation o (record { at = length (pre ++ operation_bytes free o) })
+      → operation_at s (length pre) ≡ Ok (o, record { at = length (pre ++ operation_bytes free o) })
   operation-written free (op.Open h b) f r e = open-written free h b f r e
   operation-written free (op.Dimension d) f r e = dimension-written free d r e
   operation-written free (op.Modifier m) f r e = modifier-written free m r e
@@ -282,7 +276,7 @@ module _ (s pre post : List ℕ) where
 
   -- a calculation in range that was written is read back, after anything and before anything
   pub calculation-written : (c : Calculation) → calculation_in_range c ≡ true → s ≡ pre ++ (calculation_bytes c ++ post)
-      → calculation_at s (length pre) ≡ body.Calculation c (record { at = length (pre ++ calculation_bytes c) })
+      → calculation_at s (length pre) ≡ Ok (c, record { at = length (pre ++ calculation_bytes c) })
   unfolding calculation_bytes calculation_at
   calculation-written c r e =
       let k = task_code c.task in
@@ -315,33 +309,22 @@ module _ (s pre post : List ℕ) where
 -- ---- read, then written
 
 -- a field that was not refused: its number, in range, and what came after it
-record Good {A B N : Type 0} (read : B → Cursor → N) (n : N) (allowed : B → Bool) (next : B → ℕ → A) (a : A) : Type 0 where
+record Good {A B : Type 0} (n : Option (B × Cursor)) (allowed : B → Bool) (next : B → ℕ → A) (a : A) : Type 0 where
   v : B
   c : Cursor
-  got : n ≡ read v c
+  got : n ≡ Some (v, c)
   fine : allowed v ≡ true
   went : next v c.at ≡ a
 
--- an answer that is no refusal comes from a number in range
-good-read : {A B N : Type 0} (read : B → Cursor → N) (refused : Refusal → A) (v : B) (c : Cursor) (allowed : B → Bool) (next : B → ℕ → A) (a : A)
-    → ((x : Refusal) → refused x ≡ a → ⊥) → cond (allowed v) (next v c.at) (refused OutOfRange) ≡ a → Good read (read v c) allowed next a
-good-read read refused v c allowed next a never e = go (allowed v) refl e
+-- an answer that is no refusal comes from a field that was not refused
+good : {A B : Type 0} (refused : Refusal → A) (n : Option (B × Cursor)) (allowed : B → Bool) (next : B → ℕ → A) (a : A) → ((x : Refusal) → refused x ≡ a → ⊥)
+    → field refused n allowed next ≡ a → Good n allowed next a
+good refused None allowed next a never e = absurd (never BadNumber e)
+good refused (Some (v, c)) allowed next a never e = go (allowed v) refl e
   where
-    go : (t : Bool) → allowed v ≡ t → cond t (next v c.at) (refused OutOfRange) ≡ a → Good read (read v c) allowed next a
+    go : (t : Bool) → allowed v ≡ t → cond t (next v c.at) (refused OutOfRange) ≡ a → Good (Some (v, c)) allowed next a
     go true t q = record { v = v; c = c; got = refl; fine = t; went = q }
     go false t q = absurd (never OutOfRange q)
-
--- an answer that is no refusal comes from a field that was not refused
-good : {A : Type 0} (refused : Refusal → A) (n : Number) (allowed : ℕ → Bool) (next : ℕ → ℕ → A) (a : A) → ((x : Refusal) → refused x ≡ a → ⊥)
-    → field refused n allowed next ≡ a → Good Value n allowed next a
-good refused NoNumber allowed next a never e = absurd (never BadNumber e)
-good refused (Value v c) allowed next a never e = good-read Value refused v c allowed next a never e
-
--- the same for a signed field
-good-signed : {A : Type 0} (refused : Refusal → A) (n : Signed) (allowed : ℤ → Bool) (next : ℤ → ℕ → A) (a : A) → ((x : Refusal) → refused x ≡ a → ⊥)
-    → signed_field refused n allowed next ≡ a → Good Whole n allowed next a
-good-signed refused NoWhole allowed next a never e = absurd (never BadNumber e)
-good-signed refused (Whole v c) allowed next a never e = good-read Whole refused v c allowed next a never e
 
 -- what stands where an operation was read: it is in range, and its bytes are those written for it, free bits aside
 pub record Decoding (s : List ℕ) (at : ℕ) (o : Operation) (to : ℕ) : Type 0 where
@@ -352,7 +335,7 @@ pub record Decoding (s : List ℕ) (at : ℕ) (o : Operation) (to : ℕ) : Type 
   pub on : at < to
 
 -- a refusal is no operation
-not-refused : (place : ℕ) (o : Operation) (c : Cursor) (x : Refusal) → decoded.Refused x place ≡ decoded.Operation o c → ⊥
+not-refused : (place : ℕ) (o : Operation) (c : Cursor) (x : Refusal) → ◌≡◌ {A = Decoded} (err_at place x) (Ok (o, c)) → ⊥
 not-refused place o c x e = let z : ◌≡◌ {A = ℕ} 0 1 = cc in omega arith
 
 -- an operation has at least one byte
@@ -375,8 +358,8 @@ standing s place to free o f r k =
     record { free = free; is_free = f; range = r; stands = k; on = omega (arith, k.behind, operation-some free o) }
 
 -- the same operation with the same place behind it: what stands where one was read stands for the other
-same : (s : List ℕ) (place : ℕ) (a o : Operation) (d c : Cursor) → decoded.Operation a d ≡ decoded.Operation o c → Decoding s place a d.at → Decoding s place o c.at
-same s place a o d c e k = let x : a ≡ o = cc in let y : d ≡ c = cc in rw (x, y) at k
+same : (s : List ℕ) (place : ℕ) (a o : Operation) (d c : Cursor) → ◌≡◌ {A = Decoded} (Ok (a, d)) (Ok (o, c)) → Decoding s place a d.at → Decoding s place o c.at
+same s place a o d c e k = let p = ok-pair e in rw (p.0, p.1) at k
 
 -- a code from 0 to 2 is that of the parameter that it stands for
 parameter-there : (n : ℕ) → leb n 2 ≡ true → parameter_code (parameter_coded n) ≡ n
@@ -428,16 +411,16 @@ pub second-before : (n first v : ℕ) → n ≤ 7 → is_second n first v ≡ (i
 second-before n first v h = ap (λ b. is_register v && (not b || eqb v first)) (ap (λ b. eqb n 0 || b) (le-ltb 7 n h) ∙ or-none (eqb n 0))
 
 -- a header word that was not refused
-opened-good : (w : Word) (place base to : ℕ) (o : Operation) (c : Cursor) → open_of (λ x. decoded.Refused x place) w base to ≡ decoded.Operation o c
-    → (h : Header) × (w ≡ word.Said h) × (decoded.Operation (op.Open h (record { 0 = pos base })) (record { at = to }) ≡ decoded.Operation o c)
-opened-good (word.Refused x) place base to o c e = absurd (not-refused place o c x e)
-opened-good (word.Said h) place base to o c e = (h, refl, e)
+opened-good : (w : Result Header Refusal) (place base to : ℕ) (o : Operation) (c : Cursor) → open_of (err_at place) w base to ≡ Ok (o, c)
+    → (h : Header) × (w ≡ Ok h) × (◌≡◌ {A = Decoded} (Ok (op.Open h (record { 0 = pos base }), record { at = to })) (Ok (o, c)))
+opened-good (Err x) place base to o c e = absurd (not-refused place o c x e)
+opened-good (Ok h) place base to o c e = (h, refl, e)
 
 -- a dimension whose numbers stand side by side
 dimension-stands : (s : List ℕ) (place at a1 a2 a3 a4 r n : ℕ) (f t : ℤ) → is_register r ≡ true → is_reach f ≡ true → is_size n ≡ true → is_reach t ≡ true
     → Stands s place (number_bytes 2) at → Stands s at (number_bytes r) a1 → Stands s a1 (signed_bytes f) a2 → Stands s a2 (number_bytes n) a3 → Stands s a3 (signed_bytes t) a4
     → (o : Operation) (c : Cursor)
-    → decoded.Operation (op.Dimension (record { register = r; offset = record { 0 = f }; size = n; stride = record { 0 = t } })) (record { at = a4 }) ≡ decoded.Operation o c
+    → ◌≡◌ {A = Decoded} (Ok (op.Dimension (record { register = r; offset = record { 0 = f }; size = n; stride = record { 0 = t } }), record { at = a4 })) (Ok (o, c))
     → Decoding s place o c.at
 unfolding operation_in_range operation_bytes
 dimension-stands s place at a1 a2 a3 a4 r n f t hr hf hn ht k0 k1 k2 k3 k4 o c e =
@@ -452,7 +435,7 @@ modifier-stands : (s : List ℕ) (place at a1 a2 a3 a4 a5 r g q b d : ℕ)
     → Stands s place (number_bytes 3) at → Stands s at (number_bytes r) a1 → Stands s a1 (number_bytes g) a2 → Stands s a2 (number_bytes q) a3
     → Stands s a3 (number_bytes b) a4 → Stands s a4 (number_bytes d) a5
     → (o : Operation) (c : Cursor)
-    → decoded.Operation (op.Modifier (record { register = r; target = g; parameter = parameter_coded q; behaviour = behaviour_coded b; displacement = d })) (record { at = a5 }) ≡ decoded.Operation o c
+    → ◌≡◌ {A = Decoded} (Ok (op.Modifier (record { register = r; target = g; parameter = parameter_coded q; behaviour = behaviour_coded b; displacement = d }), record { at = a5 })) (Ok (o, c))
     → Decoding s place o c.at
 unfolding operation_in_range operation_bytes
 modifier-stands s place at a1 a2 a3 a4 a5 r g q b d hr hg hq hb hd k0 k1 k2 k3 k4 k5 o c e =
@@ -465,7 +448,7 @@ modifier-stands s place at a1 a2 a3 a4 a5 r g q b d hr hg hq hb hd k0 k1 k2 k3 k
 
 module _ (s : List ℕ) (place at : ℕ) (o : Operation) (c : Cursor) (p : AreBytes s) where
   -- an open that was read stands as it is written, free bits aside
-  open-read : Stands s place (number_bytes 1) at → open_at s (λ x. decoded.Refused x place) at ≡ decoded.Operation o c → Decoding s place o c.at
+  open-read : Stands s place (number_bytes 1) at → open_at s (err_at place) at ≡ Ok (o, c) → Decoding s place o c.at
   unfolding open_at operation_in_range operation_bytes
   open-read k e =
       let f = good _ (number_at s at) any_number _ _ (not-refused place o c) e in
@@ -480,13 +463,13 @@ module _ (s : List ℕ) (place at : ℕ) (o : Operation) (c : Cursor) (p : AreBy
       (stands-join (stands-join k n1) n2))
 
   -- a dimension that was read stands as it is written
-  dimension-read : Stands s place (number_bytes 2) at → dimension_at s (λ x. decoded.Refused x place) at ≡ decoded.Operation o c → Decoding s place o c.at
+  dimension-read : Stands s place (number_bytes 2) at → dimension_at s (err_at place) at ≡ Ok (o, c) → Decoding s place o c.at
   unfolding dimension_at
   dimension-read k e =
       let f1 = good _ (number_at s at) is_register _ _ (not-refused place o c) e in
-      let f2 = good-signed _ (signed_at s f1.c.at) is_reach _ _ (not-refused place o c) f1.went in
+      let f2 = good _ (signed_at s f1.c.at) is_reach _ _ (not-refused place o c) f1.went in
       let f3 = good _ (number_at s f2.c.at) is_size _ _ (not-refused place o c) f2.went in
-      let f4 = good-signed _ (signed_at s f3.c.at) is_reach _ _ (not-refused place o c) f3.went in
+      let f4 = good _ (signed_at s f3.c.at) is_reach _ _ (not-refused place o c) f3.went in
       dimension-stands s place at f1.c.at f2.c.at f3.c.at f4.c.at f1.v f3.v f2.v f4.v f1.fine f2.fine f3.fine f4.fine k
       (number_read s at f1.v f1.c p f1.got)
       (signed-read s f1.c.at f2.v f2.c p f2.got)
@@ -495,7 +478,7 @@ module _ (s : List ℕ) (place at : ℕ) (o : Operation) (c : Cursor) (p : AreBy
       o c f4.went
 
   -- a modifier that was read stands as it is written
-  modifier-read : Stands s place (number_bytes 3) at → modifier_at s (λ x. decoded.Refused x place) at ≡ decoded.Operation o c → Decoding s place o c.at
+  modifier-read : Stands s place (number_bytes 3) at → modifier_at s (err_at place) at ≡ Ok (o, c) → Decoding s place o c.at
   unfolding modifier_at
   modifier-read k e =
       let f1 = good _ (number_at s at) is_register _ _ (not-refused place o c) e in
@@ -503,7 +486,7 @@ module _ (s : List ℕ) (place at : ℕ) (o : Operation) (c : Cursor) (p : AreBy
       let f3 = good _ (number_at s f2.c.at) (up_to 2) _ _ (not-refused place o c) f2.went in
       let f4 = good _ (number_at s f3.c.at) (up_to 1) _ _ (not-refused place o c) f3.went in
       let f5 = good _ (number_at s f4.c.at) is_displacement
-      (λ x to. decoded.Operation (op.Modifier (record { register = f1.v; target = f2.v; parameter = parameter_coded f3.v; behaviour = behaviour_coded f4.v; displacement = x })) (record { at = to })) _ (not-refused place o c) f4.went in
+      (λ x to. Ok (op.Modifier (record { register = f1.v; target = f2.v; parameter = parameter_coded f3.v; behaviour = behaviour_coded f4.v; displacement = x }), record { at = to })) _ (not-refused place o c) f4.went in
       modifier-stands s place at f1.c.at f2.c.at f3.c.at f4.c.at f5.c.at f1.v f2.v f3.v f4.v f5.v f1.fine f2.fine f3.fine f4.fine f5.fine k
       (number_read s at f1.v f1.c p f1.got)
       (number_read s f1.c.at f2.v f2.c p f2.got)
@@ -513,7 +496,7 @@ module _ (s : List ℕ) (place at : ℕ) (o : Operation) (c : Cursor) (p : AreBy
       o c f5.went
 
   -- an end that was read stands as it is written
-  end_read : Stands s place (number_bytes 4) at → end_at s (λ x. decoded.Refused x place) at ≡ decoded.Operation o c → Decoding s place o c.at
+  end_read : Stands s place (number_bytes 4) at → end_at s (err_at place) at ≡ Ok (o, c) → Decoding s place o c.at
   unfolding end_at operation_in_range operation_bytes
   end_read k e =
       let f = good _ (number_at s at) is_register _ _ (not-refused place o c) e in
@@ -522,7 +505,7 @@ module _ (s : List ℕ) (place at : ℕ) (o : Operation) (c : Cursor) (p : AreBy
       (stands-join k (number_read s at f.v f.c p f.got)))
 
   -- a run that was read, up to its count, stands as it is written
-  run-read : Stands s place (number_bytes 5) at → run_at s (λ x. decoded.Refused x place) at ≡ decoded.Operation o c → Decoding s place o c.at
+  run-read : Stands s place (number_bytes 5) at → run_at s (err_at place) at ≡ Ok (o, c) → Decoding s place o c.at
   unfolding run_at operation_in_range operation_bytes
   run-read k e =
       let f = good _ (number_at s at) is_register _ _ (not-refused place o c) e in
@@ -532,7 +515,7 @@ module _ (s : List ℕ) (place at : ℕ) (o : Operation) (c : Cursor) (p : AreBy
       (stands-join (stands-join k (number_read s at f.v f.c p f.got)) (number_read s f.c.at g.v g.c p g.got)))
 
   -- an operation of any kind that was read stands as it is written, free bits aside
-  kind-read : (kind : ℕ) → Stands s place (number_bytes kind) at → operation_numbered s (λ x. decoded.Refused x place) kind at ≡ decoded.Operation o c → Decoding s place o c.at
+  kind-read : (kind : ℕ) → Stands s place (number_bytes kind) at → operation_numbered s (err_at place) kind at ≡ Ok (o, c) → Decoding s place o c.at
   kind-read zero k e = absurd (not-refused place o c OutOfRange e)
   kind-read (suc zero) k e = open-read k e
   kind-read (suc (suc zero)) k e = dimension-read k e
@@ -542,7 +525,7 @@ module _ (s : List ℕ) (place at : ℕ) (o : Operation) (c : Cursor) (p : AreBy
   kind-read (suc (suc (suc (suc (suc (suc n)))))) k e = absurd (not-refused place o c OutOfRange e)
 
 -- an operation that was read is in range, and its bytes are those that are written for it, free bits aside
-pub operation-read : (s : List ℕ) (at : ℕ) (o : Operation) (c : Cursor) → AreBytes s → operation_at s at ≡ decoded.Operation o c → Decoding s at o c.at
+pub operation-read : (s : List ℕ) (at : ℕ) (o : Operation) (c : Cursor) → AreBytes s → operation_at s at ≡ Ok (o, c) → Decoding s at o c.at
 unfolding operation_at
 operation-read s at o c p e =
     let f = good _ (number_at s at) any_number _ _ (not-refused at o c) e in
@@ -555,18 +538,18 @@ pub record Bodying (s : List ℕ) (at : ℕ) (b : Calculation) (to : ℕ) : Type
   pub on : at < to
 
 -- a refusal is no calculation
-not-refused-body : (place : ℕ) (b : Calculation) (c : Cursor) (x : Refusal) → body.Refused x place ≡ body.Calculation b c → ⊥
+not-refused-body : (place : ℕ) (b : Calculation) (c : Cursor) (x : Refusal) → ◌≡◌ {A = Body} (err_at place x) (Ok (b, c)) → ⊥
 not-refused-body place b c x e = let z : ◌≡◌ {A = ℕ} 0 1 = cc in omega arith
 
 -- the same calculation with the same place behind it: what stands where one was read stands for the other
-same_body : (s : List ℕ) (place : ℕ) (a b : Calculation) (d c : Cursor) → body.Calculation a d ≡ body.Calculation b c → Bodying s place a d.at → Bodying s place b c.at
-same_body s place a b d c e k = let x : a ≡ b = cc in let y : d ≡ c = cc in rw (x, y) at k
+same_body : (s : List ℕ) (place : ℕ) (a b : Calculation) (d c : Cursor) → ◌≡◌ {A = Body} (Ok (a, d)) (Ok (b, c)) → Bodying s place a d.at → Bodying s place b c.at
+same_body s place a b d c e k = let p = ok-pair e in rw (p.0, p.1) at k
 
 -- a calculation whose numbers stand side by side
 calculation-stands : (s : List ℕ) (at a1 a2 a3 a4 k d f n : ℕ) → up_to 11 k ≡ true → is_register d ≡ true → is_register f ≡ true → is_second k f n ≡ true
     → Stands s at (number_bytes k) a1 → Stands s a1 (number_bytes d) a2 → Stands s a2 (number_bytes f) a3 → Stands s a3 (number_bytes n) a4
     → (o : Calculation) (c : Cursor)
-    → body.Calculation (record { task = task_coded k; destination = d; first = f; second = n }) (record { at = a4 }) ≡ body.Calculation o c
+    → ◌≡◌ {A = Body} (Ok (record { task = task_coded k; destination = d; first = f; second = n }, record { at = a4 })) (Ok (o, c))
     → Bodying s at o c.at
 unfolding calculation_bytes
 calculation-stands s at a1 a2 a3 a4 k d f n hk hd hf hn k1 k2 k3 k4 o c e =
@@ -578,7 +561,7 @@ calculation-stands s at a1 a2 a3 a4 k d f n hk hd hf hn k1 k2 k3 k4 o c e =
     (record { range = and_both _ _ (and_both _ _ hd hf) r; stands = j; on = omega (arith, j.behind, calculation-some b) })
 
 -- a calculation that was read is in range, and its bytes are those that are written for it
-pub calculation-read : (s : List ℕ) (at : ℕ) (b : Calculation) (c : Cursor) → AreBytes s → calculation_at s at ≡ body.Calculation b c → Bodying s at b c.at
+pub calculation-read : (s : List ℕ) (at : ℕ) (b : Calculation) (c : Cursor) → AreBytes s → calculation_at s at ≡ Ok (b, c) → Bodying s at b c.at
 unfolding calculation_at
 calculation-read s at b c p e =
     let f1 = good _ (number_at s at) (up_to 11) _ _ (not-refused-body at b c) e in

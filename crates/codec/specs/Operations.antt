@@ -1,21 +1,20 @@
 -- Operations and calculations, read number by number and as they are written.
 --
---   field, signed_field          a number is read, then checked for range, before the next
+--   Decoded, Body                 what decoding gives
+--   field                         a number is read, then checked for range, before the next
+--   IsRead, IsUnread              what reading one such number comes to
 --   open_at .. run_at             the numbers of each kind of operation
 --   operation_at, calculation_at  what stands at a place of a sheet
 --   operation_in_range, calculation_in_range  what can be written
 --   operation_bytes, bytes_of_all, calculation_bytes   as bytes
-use Rattle.std.specs.Prelude.{ℕ, zero, suc, ◌+◌, List, [], ◌∷◌, ◌++◌, Bool, true, cond, not, ◌&&◌, ◌||◌, leb, eqb, ltb, ℤ, pos, nat_abs}
+use Rattle.std.specs.Prelude.{ℕ, zero, suc, ◌+◌, ◌≡◌, ◌⊎◌, List, [], ◌∷◌, ◌++◌, Bool, true, false, Option, Some, None, Result, Ok, Err, cond, not, ◌&&◌, ◌||◌, leb, eqb, ltb, ℤ, pos, nat_abs}
 use Rattle.std.specs.Int.Signed.{non_neg}
 use Rattle.codec.specs.Numbers.{number_at, signed_at, number_bytes, unsigned_of}
+use Rattle.codec.specs.Refusals.{err_at}
 use Rattle.codec.specs.Headers.{header_of, header_in_range, word_of}
 use Rattle.codec.specs.declared.amounts.Bytes.{Bytes}
-use Rattle.codec.specs.declared.number.Number.{Number}
-use Rattle.codec.specs.declared.number.Number.TheVariants.{Value, NoNumber}
-use Rattle.codec.specs.declared.number.Signed.{Signed}
-use Rattle.codec.specs.declared.number.Signed.TheVariants.{Whole, NoWhole}
-use Rattle.codec.specs.declared.header.Word.{Word}
-use Rattle.codec.specs.declared.header.Word.TheVariants as word
+use Rattle.codec.specs.declared.number.Cursor.{Cursor}
+use Rattle.codec.specs.declared.header.Header.{Header}
 use Rattle.codec.specs.declared.operation.Dimension.{Dimension}
 use Rattle.codec.specs.declared.operation.Parameter.{Parameter}
 use Rattle.codec.specs.declared.operation.Parameter.TheVariants as parameter
@@ -31,22 +30,32 @@ use Rattle.codec.specs.declared.operation.Fold.TheVariants as fold
 use Rattle.codec.specs.declared.operation.Task.{Task}
 use Rattle.codec.specs.declared.operation.Task.TheVariants as task
 use Rattle.codec.specs.declared.operation.Calculation.{Calculation}
-use Rattle.codec.specs.declared.operation.Decoded.{Decoded}
-use Rattle.codec.specs.declared.operation.Decoded.TheVariants as decoded
-use Rattle.codec.specs.declared.operation.Body.{Body}
-use Rattle.codec.specs.declared.operation.Body.TheVariants as body
 use Rattle.codec.specs.declared.refusal.Refusal.{Refusal}
 use Rattle.codec.specs.declared.refusal.Refusal.TheVariants.{BadNumber, OutOfRange}
+use Rattle.codec.specs.declared.refusal.Refused.{Refused}
+
+-- what decoding an operation gives: the operation and the place behind it, or the refusal and its place
+abbrev pub Decoded : Type 0
+Decoded = Result (Operation × Cursor) Refused
+
+-- the same for a calculation
+abbrev pub Body : Type 0
+Body = Result (Calculation × Cursor) Refused
 
 -- "Each number is read, then checked for range, before the next": no number is refused with 1, one out of range with 2
-abbrev pub field : {A : Type 0} → (Refusal → A) → Number → (ℕ → Bool) → (ℕ → ℕ → A) → A
-field refused NoNumber allowed next = refused BadNumber
-field refused (Value v c) allowed next = cond (allowed v) (next v c.at) (refused OutOfRange)
+abbrev pub field : {A B : Type 0} → (Refusal → A) → Option (B × Cursor) → (B → Bool) → (B → ℕ → A) → A
+field refused None allowed next = refused BadNumber
+field refused (Some (v, c)) allowed next = cond (allowed v) (next v c.at) (refused OutOfRange)
 
--- the same for a signed number: none is refused with 1, one out of range with 2
-abbrev pub signed_field : {A : Type 0} → (Refusal → A) → Signed → (ℤ → Bool) → (ℤ → ℕ → A) → A
-signed_field refused NoWhole allowed next = refused BadNumber
-signed_field refused (Whole z c) allowed next = cond (allowed z) (next z c.at) (refused OutOfRange)
+-- a number that was read and is in its range
+abbrev pub IsRead : {B : Type 0} → Option (B × Cursor) → (B → Bool) → B × Cursor → Type 0
+IsRead n allowed r = (n ≡ Some r) × (allowed r.0 ≡ true)
+
+-- why a number is refused at a place: with 1 as there is none, or with 2 as it is out of its range
+abbrev pub IsUnread : {B : Type 0} → Option (B × Cursor) → (B → Bool) → ℕ → Refused → Type 0
+IsUnread {B} n allowed place e =
+    ((n ≡ None) × (e ≡ record { refusal = BadNumber; place = place }))
+    ⊎ ((r : B × Cursor) × (n ≡ Some r) × (allowed r.0 ≡ false) × (e ≡ record { refusal = OutOfRange; place = place }))
 
 -- any number is allowed: the number of an operation and a header word are judged once they are read
 abbrev pub any_number : ℕ → Bool
@@ -112,9 +121,9 @@ abbrev pub task_coded : ℕ → Task
 task_coded n = cond (leb n 7) (task.Each (action_coded n)) (task.All (fold_coded n))
 
 -- the open operation of a header word and a base, once both are read: a word is refused with 3, then 4
-abbrev pub open_of : (Refusal → Decoded) → Word → ℕ → ℕ → Decoded
-open_of refused (word.Refused x) base at = refused x
-open_of refused (word.Said h) base at = decoded.Operation (op.Open h (record { 0 = pos base })) (record { at = at })
+abbrev pub open_of : (Refusal → Decoded) → Result Header Refusal → ℕ → ℕ → Decoded
+open_of refused (Err x) base at = refused x
+open_of refused (Ok h) base at = Ok (op.Open h (record { 0 = pos base }), record { at = at })
 
 -- "1 open: header word, base"
 unfoldable pub open_at : List ℕ → (Refusal → Decoded) → ℕ → Decoded
@@ -127,12 +136,10 @@ open_at s refused at =
 unfoldable pub dimension_at : List ℕ → (Refusal → Decoded) → ℕ → Decoded
 dimension_at s refused at =
     field refused (number_at s at) is_register λ register at.
-    signed_field refused (signed_at s at) is_reach λ offset at.
+    field refused (signed_at s at) is_reach λ offset at.
     field refused (number_at s at) is_size λ size at.
-    signed_field refused (signed_at s at) is_reach λ stride at.
-    decoded.Operation
-    (op.Dimension (record { register = register; offset = record { 0 = offset }; size = size; stride = record { 0 = stride } }))
-    (record { at = at })
+    field refused (signed_at s at) is_reach λ stride at.
+    Ok (op.Dimension (record { register = register; offset = record { 0 = offset }; size = size; stride = record { 0 = stride } }), record { at = at })
 
 -- "3 modifier: register, target field 0 to 6 .., parameter .., behaviour .., displacement"
 unfoldable pub modifier_at : List ℕ → (Refusal → Decoded) → ℕ → Decoded
@@ -142,27 +149,28 @@ modifier_at s refused at =
     field refused (number_at s at) (up_to 2) λ parameter at.
     field refused (number_at s at) (up_to 1) λ behaviour at.
     field refused (number_at s at) is_displacement λ displacement at.
-    decoded.Operation
-    (op.Modifier
-    (record {
-      register = register;
-      target = target;
-      parameter = parameter_coded parameter;
-      behaviour = behaviour_coded behaviour;
-      displacement = displacement;
-    }))
-    (record { at = at })
+    Ok (
+      op.Modifier
+          (record {
+            register = register;
+            target = target;
+            parameter = parameter_coded parameter;
+            behaviour = behaviour_coded behaviour;
+            displacement = displacement;
+          }),
+      record { at = at },
+    )
 
 -- "4 end: register"
 unfoldable pub end_at : List ℕ → (Refusal → Decoded) → ℕ → Decoded
-end_at s refused at = field refused (number_at s at) is_register λ register at. decoded.Operation (op.End register) (record { at = at })
+end_at s refused at = field refused (number_at s at) is_register λ register at. Ok (op.End register, record { at = at })
 
 -- "5 run: loop register, count, then the calculations"
 unfoldable pub run_at : List ℕ → (Refusal → Decoded) → ℕ → Decoded
 run_at s refused at =
     field refused (number_at s at) is_register λ register at.
     field refused (number_at s at) is_count λ count at.
-    decoded.Operation (op.Run register count) (record { at = at })
+    Ok (op.Run register count, record { at = at })
 
 -- the operation that has a number, 1 to 5, its other numbers read from a place on; 2 for an "unknown operation"
 abbrev pub operation_numbered : List ℕ → (Refusal → Decoded) → ℕ → ℕ → Decoded
@@ -176,7 +184,7 @@ operation_numbered s refused (suc (suc (suc (suc (suc (suc n)))))) at = refused 
 
 -- the operation at a place; the place of its refusals is its first byte
 unfoldable pub operation_at : List ℕ → ℕ → Decoded
-operation_at s at = field (λ x. decoded.Refused x at) (number_at s at) any_number λ number next. operation_numbered s (λ x. decoded.Refused x at) number next
+operation_at s at = field (err_at at) (number_at s at) any_number λ number next. operation_numbered s (err_at at) number next
 
 -- "0 copy (second source must equal the first, else 2)"; 02, 2/14, of 8 to 11: "over all valid lanes of one source"
 abbrev pub has_one_source : ℕ → Bool
@@ -189,13 +197,11 @@ is_second code first v = is_register v && (not (has_one_source code) || eqb v fi
 -- "each: operation, destination, first source, second source"; the place of its refusals is its first byte
 unfoldable pub calculation_at : List ℕ → ℕ → Body
 calculation_at s place =
-    field (λ x. body.Refused x place) (number_at s place) (up_to 11) λ code at.
-    field (λ x. body.Refused x place) (number_at s at) is_register λ destination at.
-    field (λ x. body.Refused x place) (number_at s at) is_register λ first at.
-    field (λ x. body.Refused x place) (number_at s at) (is_second code first) λ second at.
-    body.Calculation
-    (record { task = task_coded code; destination = destination; first = first; second = second })
-    (record { at = at })
+    field (err_at place) (number_at s place) (up_to 11) λ code at.
+    field (err_at place) (number_at s at) is_register λ destination at.
+    field (err_at place) (number_at s at) is_register λ first at.
+    field (err_at place) (number_at s at) (is_second code first) λ second at.
+    Ok (record { task = task_coded code; destination = destination; first = first; second = second }, record { at = at })
 
 -- ---- writing
 

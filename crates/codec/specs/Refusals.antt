@@ -4,11 +4,13 @@
 --   role_number, lane_of, operand_of   the two numbers more that 14 carries
 --   numbered, rolled, one-role, one_number   a refusal is known by these three
 --   is-numbered            any but 14 by its own number alone
-use Rattle.std.specs.Prelude.{ℕ, zero, suc, ◌≡◌, refl, false, eqb}
+--   err_at                 a refusal with its place, as an answer
+use Rattle.std.specs.Prelude.{ℕ, zero, suc, ◌≡◌, refl, false, Result, Err, eqb}
 use Rattle.std.proofs.Common.{sym, ◌∙◌, ap}
 use Rattle.codec.specs.TestLaws.{never}
 use Rattle.codec.specs.declared.refusal.Role.{Role}
 use Rattle.codec.specs.declared.refusal.Role.TheVariants as role
+use Rattle.codec.specs.declared.refusal.Refused.{Refused}
 use Rattle.codec.specs.declared.refusal.Refusal.{Refusal}
 use Rattle.codec.specs.declared.refusal.Refusal.TheVariants.{BadNumber, OutOfRange, FixedBits, NotCarried, WrongState, TooMany, Misplaced, LowHigh, Product, WrongKind, StreamEnded, Widths, LaneCounts, Outside, Lengths, LoopRegister, NoRoom, NoLanes}
 
@@ -80,6 +82,10 @@ operand_of Lengths = 0
 operand_of LoopRegister = 0
 operand_of NoRoom = 0
 operand_of NoLanes = 0
+
+-- what is refused is refused at a place: its first byte, of an operation or a calculation
+abbrev pub err_at : {A : Type 0} → ℕ → Refusal → Result A Refused
+err_at place x = Err (record { refusal = x; place = place })
 
 -- the operand that has a number, 0 to 2; any other number, which none has, gives the last
 abbrev pub rolled : ℕ → Role

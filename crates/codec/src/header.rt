@@ -1,19 +1,18 @@
 // Header words, taken apart into kind, width, register and coupling.
 ghost use Rattle.std.specs.Prelude.{◌≡◌, cond, true, ◌<◌, ◌≤◌};
 ghost use Rattle.codec.specs.Headers.{bits_of, fixed_bits, clear_bits, kind_of, width_coded, bytes_of, coupling_of, header_said, header_of, coupling_in_range, header_in_range, kind_code, width_code, coupling_code, word_of};
-ghost use Rattle.codec.specs.declared.header.Worded.TheVariants as worded;
 
 use crate::refusal::Refusal;
 
 // Whether a stream reads or writes memory.
-#[derive(Clone, Copy)]
+#[derive(Clone, Copy, Debug, PartialEq, Eq)]
 pub enum Kind {
     Load,
     Store,
 }
 
 // The element width: 1, 2, 4 or 8 bytes, codes 0 to 3.
-#[derive(Clone, Copy)]
+#[derive(Clone, Copy, Debug, PartialEq, Eq)]
 pub enum Width {
     B,
     H,
@@ -21,33 +20,13 @@ pub enum Width {
     D,
 }
 
-// The dimension at whose pass ends a stream's chunks end, counted from 1, if any.
-#[derive(Clone, Copy)]
-pub enum Coupling {
-    Uncoupled,
-    Coupled(u64),
-}
-
-#[derive(Clone, Copy)]
+#[derive(Clone, Copy, Debug, PartialEq, Eq)]
 pub struct Header {
     pub kind: Kind,
     pub width: Width,
     pub register: usize,
-    pub coupling: Coupling,
-}
-
-// What a header word says, or why it is refused: 3, then 4.
-#[derive(Clone, Copy)]
-pub enum Word {
-    Said(Header),
-    Refused(Refusal),
-}
-
-// A header as a word, or that a field of it is out of range.
-#[derive(Clone, Copy)]
-pub enum Worded {
-    Word(u64),
-    OutOfRange,
+    // the dimension at whose pass ends the chunks end, counted from 1, if any
+    pub coupling: Option<u64>,
 }
 
 // Bits lo to lo + n - 1 of a word.
@@ -62,33 +41,19 @@ fn bits(w: u32, lo: u32, n: u32) -> u32
 fn fixed_bits(w: u32) -> bool
     ensures { result ≡ fixed_bits w }
 {
-    if bits(w, 0, 7) != 11 {
-        return false;
-    }
-    if bits(w, 20, 2) != 0 {
-        return false;
-    }
-    if bits(w, 25, 2) != 0 {
-        return false;
-    }
     let coupled = bits(w, 27, 3);
-    if coupled == 7 {
-        return false;
-    }
-    if bits(w, 30, 1) == 1 {
-        return true;
-    }
-    coupled == 0
+    bits(w, 0, 7) == 11
+        && bits(w, 20, 2) == 0
+        && bits(w, 25, 2) == 0
+        && coupled != 7
+        && (bits(w, 30, 1) == 1 || coupled == 0)
 }
 
 // Whether neither inds nor m is set.
 fn clear_bits(w: u32) -> bool
     ensures { result ≡ clear_bits w }
 {
-    if bits(w, 24, 1) != 0 {
-        return false;
-    }
-    bits(w, 31, 1) == 0
+    bits(w, 24, 1) == 0 && bits(w, 31, 1) == 0
 }
 
 fn kind_of(w: u32) -> Kind
@@ -101,14 +66,14 @@ fn kind_of(w: u32) -> Kind
     }
 }
 
-fn coupling_of(w: u32) -> Coupling
+fn coupling_of(w: u32) -> Option<u64>
     ensures { result ≡ coupling_of w }
 {
     if bits(w, 30, 1) == 1 {
-        let d = bits(w, 27, 3);
-        return Coupling::Coupled((d + 1) as u64);
+        Some(bits(w, 27, 3) as u64 + 1)
+    } else {
+        None
     }
-    Coupling::Uncoupled
 }
 
 impl Width {
@@ -116,16 +81,12 @@ impl Width {
     pub fn coded(code: u64) -> Width
         ensures { result ≡ width_coded code }
     {
-        if code == 0 {
-            return Width::B;
+        match code {
+            0 => Width::B,
+            1 => Width::H,
+            2 => Width::W,
+            _ => Width::D,
         }
-        if code == 1 {
-            return Width::H;
-        }
-        if code == 2 {
-            return Width::W;
-        }
-        Width::D
     }
 
     // The width in bytes.
@@ -154,6 +115,7 @@ impl Width {
 }
 
 // The fields of a header word.
+#[tactic(auto, unfolding(crate::specs::Headers::header_said))]
 fn header_said(w: u32) -> Header
     ensures { result ≡ header_said w }
 {
@@ -166,29 +128,25 @@ fn header_said(w: u32) -> Header
 }
 
 // What a header word says: refused with 3 where it breaks the fixed bits, then with 4 where m or inds is set.
-pub fn header_of(w: u32) -> Word
+#[tactic(auto, unfolding(crate::specs::Headers::header_of))]
+pub fn header_of(w: u32) -> Result<Header, Refusal>
     ensures { result ≡ header_of w }
 {
-    if fixed_bits(w) {
-        if clear_bits(w) {
-            return Word::Said(header_said(w));
-        }
-        return Word::Refused(Refusal::NotCarried);
+    if !fixed_bits(w) {
+        return Err(Refusal::FixedBits);
     }
-    Word::Refused(Refusal::FixedBits)
+    if !clear_bits(w) {
+        return Err(Refusal::NotCarried);
+    }
+    Ok(header_said(w))
 }
 
-fn coupling_in_range(c: Coupling) -> bool
+fn coupling_in_range(c: Option<u64>) -> bool
     ensures { result ≡ coupling_in_range c }
 {
     match c {
-        Coupling::Uncoupled => true,
-        Coupling::Coupled(d) => {
-            if 1 <= d {
-                return d <= 7;
-            }
-            false
-        }
+        None => true,
+        Some(d) => 1 <= d && d <= 7,
     }
 }
 
@@ -196,11 +154,7 @@ fn coupling_in_range(c: Coupling) -> bool
 pub(crate) fn header_in_range(h: Header) -> bool
     ensures { result ≡ header_in_range h }
 {
-    let c = h.coupling;
-    if h.register <= 31 {
-        return coupling_in_range(c);
-    }
-    false
+    h.register <= 31 && coupling_in_range(h.coupling)
 }
 
 fn kind_code(k: Kind) -> u64
@@ -212,13 +166,13 @@ fn kind_code(k: Kind) -> u64
     }
 }
 
-fn coupling_code(c: Coupling) -> u64
+fn coupling_code(c: Option<u64>) -> u64
     requires { coupling_in_range c ≡ true }
     ensures { (result ≡ coupling_code c) × (result < 2147483648) }
 {
     match c {
-        Coupling::Uncoupled => 0,
-        Coupling::Coupled(d) => 1073741824 + (d - 1) * 134217728,
+        None => 0,
+        Some(d) => 1073741824 + (d - 1) * 134217728,
     }
 }
 
@@ -227,18 +181,19 @@ pub(crate) fn word_in_range(h: Header) -> u64
     requires { header_in_range h ≡ true }
     ensures { (result ≡ word_of h) × (result < 4294967296) }
 {
-    let k = h.kind;
-    let w = h.width;
-    let c = h.coupling;
-    11 + (h.register as u64) * 128 + w.code() * 4096 + kind_code(k) * 16384 + coupling_code(c)
+    11 + (h.register as u64) * 128
+        + h.width.code() * 4096
+        + kind_code(h.kind) * 16384
+        + coupling_code(h.coupling)
 }
 
-// A header as a word, bits 19-15 and 23-22 zero; a field out of range is the answer's other case.
-pub fn word_of(h: Header) -> Worded
-    ensures { result ≡ cond (header_in_range h) (worded.Word (word_of h)) worded.OutOfRange }
+// A header as a word, bits 19-15 and 23-22 zero; none where a field of it is out of range.
+pub fn word_of(h: Header) -> Option<u64>
+    ensures { result ≡ cond (header_in_range h) (Some (word_of h)) None }
 {
     if header_in_range(h) {
-        return Worded::Word(word_in_range(h));
+        Some(word_in_range(h))
+    } else {
+        None
     }
-    Worded::OutOfRange
 }

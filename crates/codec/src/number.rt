@@ -1,56 +1,32 @@
 // Numbers in groups of seven bits, lowest group first, read by a cursor that is handed on.
-ghost use Rattle.std.specs.Prelude.{◌≡◌, ◌≤◌, ◌<◌, ◌^◌, drop};
-ghost use Rattle.codec.specs.Numbers.{groups_at, number_at, signed_at, signed_of, value_of};
+ghost use Rattle.std.specs.Prelude.{◌≡◌, ◌≤◌, ◌<◌, ◌^◌, drop, IfSome};
+ghost use Rattle.codec.specs.Numbers.{groups_at, number_at, signed_at, signed_of};
 
 // A place in a sheet or a nest.
-#[derive(Clone, Copy)]
+#[derive(Clone, Copy, Debug, PartialEq, Eq)]
 pub struct Cursor {
     pub at: usize,
 }
 
-// What reading a number gives: the value together with the moved place, or no number.
-#[derive(Clone, Copy)]
-pub enum Number {
-    Value(u64, Cursor),
-    NoNumber,
-}
-
-// The same for a signed number.
-#[derive(Clone, Copy)]
-pub enum Signed {
-    Whole(i64, Cursor),
-    NoWhole,
-}
-
-fn wide(x: u8) -> u64
-    ensures { (result ≡ x) × (result < 256) }
-{
-    x as u64
-}
-
-// The groups at a place, at most so many.
-fn groups(s: &[u8], at: usize, most: u64) -> Number
+// The groups at a place, at most so many: the number that they give, and the place behind them.
+fn groups(s: &[u8], at: usize, most: u64) -> Option<(u64, Cursor)>
     requires { most ≤ 5 }
-    ensures { (result ≡ groups_at most at (drop at s.now)) × (value_of result < 128 ^ most) }
+    ensures read { result ≡ groups_at most at (drop at s.now) }
+    ensures below { IfSome result (λ n. n.0 < 128 ^ most) }
 {
-    if most == 0 {
-        return Number::NoNumber;
+    if most == 0 || s.len() <= at {
+        return None;
     }
-    if s.len() <= at {
-        return Number::NoNumber;
-    }
-    let b = wide(s[at]);
+    let b = s[at] as u64;
     let next = at + 1;
     if b < 128 {
-        return Number::Value(b, Cursor { at: next });
+        return Some((b, Cursor { at: next }));
     }
-    let Number::Value(v, behind) = groups(s, next, most - 1) else {
-        return Number::NoNumber;
-    };
+    let (v, behind) = groups(s, next, most - 1)?;
     if v == 0 {
-        return Number::NoNumber;
+        return None;
     }
-    Number::Value(b - 128 + 128 * v, behind)
+    Some((b - 128 + 128 * v, behind))
 }
 
 // The signed number that n stands for: half of an even one, below zero for an odd one.
@@ -64,27 +40,23 @@ fn signed_of(n: u64) -> i64
 
 impl Cursor {
     // The number at the cursor, with the place behind it.
-    pub fn number(self, s: &[u8]) -> Number
+    #[tactic(auto, unfolding(crate::specs::Numbers::number_at))]
+    pub fn number(self, s: &[u8]) -> Option<(u64, Cursor)>
         ensures { result ≡ number_at s.now self.at }
     {
-        let at = self.at;
-        let Number::Value(v, behind) = groups(s, at, 5) else {
-            return Number::NoNumber;
-        };
+        let (v, behind) = groups(s, self.at, 5)?;
         if v < 4294967296 {
-            return Number::Value(v, behind);
+            Some((v, behind))
+        } else {
+            None
         }
-        Number::NoNumber
     }
 
     // The signed number at the cursor, with the place behind it.
-    pub fn signed(self, s: &[u8]) -> Signed
+    pub fn signed(self, s: &[u8]) -> Option<(i64, Cursor)>
         ensures { result ≡ signed_at s.now self.at }
     {
-        let Number::Value(v, behind) = self.number(s) else {
-            return Signed::NoWhole;
-        };
-        let n = signed_of(v);
-        Signed::Whole(n, behind)
+        let (v, behind) = self.number(s)?;
+        Some((signed_of(v), behind))
     }
 }

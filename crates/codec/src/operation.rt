@@ -1,15 +1,16 @@
 // The operations of a sheet and the calculations of its run, decoded.
-ghost use Rattle.std.specs.Prelude.{◌≡◌, pos, ◌≤◌};
-ghost use Rattle.codec.specs.Operations.{is_reach, parameter_coded, behaviour_coded, action_coded, fold_coded, task_coded, has_one_source, is_second, open_at, dimension_at, modifier_at, end_at, run_at, operation_at, calculation_at};
-ghost use Rattle.codec.specs.declared.operation.Decoded.TheVariants as decoded;
+ghost use Rattle.std.specs.Prelude.{◌≡◌, MatchResult};
+ghost use Rattle.codec.specs.Numbers.{number_at, signed_at};
+ghost use Rattle.codec.specs.Refusals.{err_at};
+ghost use Rattle.codec.specs.Operations.{IsRead, IsUnread, up_to, is_reach, parameter_coded, behaviour_coded, action_coded, fold_coded, task_coded, has_one_source, open_at, dimension_at, modifier_at, end_at, run_at, operation_at, calculation_at};
 
 use crate::amounts::{Bytes, Elements};
-use crate::header::{Header, Word, header_of};
-use crate::number::{Cursor, Number, Signed};
-use crate::refusal::Refusal;
+use crate::header::{Header, header_of};
+use crate::number::Cursor;
+use crate::refusal::{Refusal, Refused};
 
 // A dimension of a register's stream: a byte offset, how many indices, and a stride in elements.
-#[derive(Clone, Copy)]
+#[derive(Clone, Copy, Debug, PartialEq, Eq)]
 pub struct Dimension {
     pub register: usize,
     pub offset: Bytes,
@@ -18,7 +19,7 @@ pub struct Dimension {
 }
 
 // Which parameter of its target a modifier changes.
-#[derive(Clone, Copy)]
+#[derive(Clone, Copy, Debug, PartialEq, Eq)]
 pub enum Parameter {
     Size,
     Offset,
@@ -26,14 +27,14 @@ pub enum Parameter {
 }
 
 // Whether a modifier adds or subtracts.
-#[derive(Clone, Copy)]
+#[derive(Clone, Copy, Debug, PartialEq, Eq)]
 pub enum Behaviour {
     Add,
     Subtract,
 }
 
 // A modifier; the target field is 0 to 6, for dimension 1 to 7.
-#[derive(Clone, Copy)]
+#[derive(Clone, Copy, Debug, PartialEq, Eq)]
 pub struct Modifier {
     pub register: usize,
     pub target: u64,
@@ -43,7 +44,7 @@ pub struct Modifier {
 }
 
 // An operation of a sheet. Of a run, the loop register and the count of calculations that follow.
-#[derive(Clone, Copy)]
+#[derive(Clone, Copy, Debug, PartialEq, Eq)]
 pub enum Operation {
     Open(Header, Bytes),
     Dimension(Dimension),
@@ -53,7 +54,7 @@ pub enum Operation {
 }
 
 // What is done to two lanes.
-#[derive(Clone, Copy)]
+#[derive(Clone, Copy, Debug, PartialEq, Eq)]
 pub enum Action {
     Copy,
     Add,
@@ -66,7 +67,7 @@ pub enum Action {
 }
 
 // What is made of all lanes of one source: a single lane.
-#[derive(Clone, Copy)]
+#[derive(Clone, Copy, Debug, PartialEq, Eq)]
 pub enum Fold {
     Sum,
     Smallest,
@@ -75,14 +76,14 @@ pub enum Fold {
 }
 
 // What a calculation does: an action lane by lane, or a fold over all lanes of one source.
-#[derive(Clone, Copy)]
+#[derive(Clone, Copy, Debug, PartialEq, Eq)]
 pub enum Task {
     Each(Action),
     All(Fold),
 }
 
 // A calculation of a run's body.
-#[derive(Clone, Copy)]
+#[derive(Clone, Copy, Debug, PartialEq, Eq)]
 pub struct Calculation {
     pub task: Task,
     pub destination: usize,
@@ -90,32 +91,17 @@ pub struct Calculation {
     pub second: usize,
 }
 
-// What decoding an operation gives: the operation and the place behind it, or the refusal and its place.
-#[derive(Clone, Copy)]
-pub enum Decoded {
-    Operation(Operation, Cursor),
-    Refused(Refusal, usize),
-}
-
-// The same for a calculation.
-#[derive(Clone, Copy)]
-pub enum Body {
-    Calculation(Calculation, Cursor),
-    Refused(Refusal, usize),
-}
-
+// The codes are read by functions with a name: a From would not say that a code which none has is read as the last.
 impl Parameter {
     // The parameter of a code; codes above 2 are read as 2.
     pub fn coded(code: u64) -> Parameter
         ensures { result ≡ parameter_coded code }
     {
-        if code == 0 {
-            return Parameter::Size;
+        match code {
+            0 => Parameter::Size,
+            1 => Parameter::Offset,
+            _ => Parameter::Stride,
         }
-        if code == 1 {
-            return Parameter::Offset;
-        }
-        Parameter::Stride
     }
 }
 
@@ -124,10 +110,10 @@ impl Behaviour {
     pub fn coded(code: u64) -> Behaviour
         ensures { result ≡ behaviour_coded code }
     {
-        if code == 0 {
-            return Behaviour::Add;
+        match code {
+            0 => Behaviour::Add,
+            _ => Behaviour::Subtract,
         }
-        Behaviour::Subtract
     }
 }
 
@@ -136,28 +122,16 @@ impl Action {
     pub fn coded(code: u64) -> Action
         ensures { result ≡ action_coded code }
     {
-        if code == 0 {
-            return Action::Copy;
+        match code {
+            0 => Action::Copy,
+            1 => Action::Add,
+            2 => Action::Subtract,
+            3 => Action::And,
+            4 => Action::Or,
+            5 => Action::Xor,
+            6 => Action::Smaller,
+            _ => Action::Larger,
         }
-        if code == 1 {
-            return Action::Add;
-        }
-        if code == 2 {
-            return Action::Subtract;
-        }
-        if code == 3 {
-            return Action::And;
-        }
-        if code == 4 {
-            return Action::Or;
-        }
-        if code == 5 {
-            return Action::Xor;
-        }
-        if code == 6 {
-            return Action::Smaller;
-        }
-        Action::Larger
     }
 }
 
@@ -166,16 +140,12 @@ impl Fold {
     pub fn coded(code: u64) -> Fold
         ensures { result ≡ fold_coded code }
     {
-        if code == 8 {
-            return Fold::Sum;
+        match code {
+            8 => Fold::Sum,
+            9 => Fold::Smallest,
+            10 => Fold::Largest,
+            _ => Fold::FirstLargest,
         }
-        if code == 9 {
-            return Fold::Smallest;
-        }
-        if code == 10 {
-            return Fold::Largest;
-        }
-        Fold::FirstLargest
     }
 }
 
@@ -185,9 +155,10 @@ impl Task {
         ensures { result ≡ task_coded code }
     {
         if code <= 7 {
-            return Task::Each(Action::coded(code));
+            Task::Each(Action::coded(code))
+        } else {
+            Task::All(Fold::coded(code))
         }
-        Task::All(Fold::coded(code))
     }
 }
 
@@ -195,233 +166,172 @@ impl Task {
 pub fn in_reach(z: i64) -> bool
     ensures { result ≡ is_reach z }
 {
-    if z < -1048576 {
-        return false;
-    }
-    z <= 1048576
-}
-
-// A base as an amount of bytes.
-fn base_bytes(base: u64) -> Bytes
-    requires { base ≤ 1048576 }
-    ensures { result.0 ≡ pos base }
-{
-    Bytes(base as i64)
+    -1048576 <= z && z <= 1048576
 }
 
 // Whether a calculation of a code has one source only: a copy, or one over all lanes.
 pub(crate) fn has_one_source(code: u64) -> bool
     ensures { result ≡ has_one_source code }
 {
-    if code == 0 {
-        return true;
-    }
-    7 < code
+    code == 0 || 7 < code
 }
 
-// Whether a second source is a register, and the first source where there is one source only.
-fn is_second(code: u64, first: u64, second: u64) -> bool
-    ensures { result ≡ is_second code first second }
-{
-    if 31 < second {
-        return false;
-    }
-    if has_one_source(code) {
-        return second == first;
-    }
-    true
+// What reads an operation or a calculation of a sheet; the place of its refusals is its first byte.
+#[derive(Clone, Copy)]
+struct Reader<'a> {
+    sheet: &'a [u8],
+    place: usize,
 }
 
-// 1, open: header word, base. Both are read before the word is looked at.
-fn open_at(s: &[u8], place: usize, c: Cursor) -> Decoded
-    ensures { result ≡ open_at s.now (λ x. decoded.Refused x place) c.at }
-{
-    let Number::Value(word, c1) = c.number(s) else {
-        return Decoded::Refused(Refusal::BadNumber, place);
-    };
-    let Number::Value(base, c2) = c1.number(s) else {
-        return Decoded::Refused(Refusal::BadNumber, place);
-    };
-    if 1048576 < base {
-        return Decoded::Refused(Refusal::OutOfRange, place);
+impl Reader<'_> {
+    fn refused(self, refusal: Refusal) -> Refused
+        ensures { result ≡ record { refusal = refusal; place = self.entry.place } }
+    {
+        Refused {
+            refusal,
+            place: self.place,
+        }
     }
-    let bytes = base_bytes(base);
-    match header_of(word as u32) {
-        Word::Said(header) => Decoded::Operation(Operation::Open(header, bytes), c2),
-        Word::Refused(refusal) => Decoded::Refused(refusal, place),
-    }
-}
 
-// 2, dimension: register, offset, size, stride.
-fn dimension_at(s: &[u8], place: usize, c: Cursor) -> Decoded
-    ensures { result ≡ dimension_at s.now (λ x. decoded.Refused x place) c.at }
-{
-    let Number::Value(register, c1) = c.number(s) else {
-        return Decoded::Refused(Refusal::BadNumber, place);
-    };
-    if 31 < register {
-        return Decoded::Refused(Refusal::OutOfRange, place);
+    // The number at the cursor, which is at most so much: none is refused with 1, a larger one with 2.
+    fn number(self, c: Cursor, most: u64) -> Result<(u64, Cursor), Refused>
+        ensures { MatchResult result (IsRead (number_at self.entry.sheet.now c.at) (up_to most)) (IsUnread (number_at self.entry.sheet.now c.at) (up_to most) self.entry.place) }
+    {
+        let Some((v, next)) = c.number(self.sheet) else {
+            return Err(self.refused(Refusal::BadNumber));
+        };
+        if most < v {
+            return Err(self.refused(Refusal::OutOfRange));
+        }
+        Ok((v, next))
     }
-    let Signed::Whole(offset, c2) = c1.signed(s) else {
-        return Decoded::Refused(Refusal::BadNumber, place);
-    };
-    if !in_reach(offset) {
-        return Decoded::Refused(Refusal::OutOfRange, place);
-    }
-    let Number::Value(size, c3) = c2.number(s) else {
-        return Decoded::Refused(Refusal::BadNumber, place);
-    };
-    if 4096 < size {
-        return Decoded::Refused(Refusal::OutOfRange, place);
-    }
-    let Signed::Whole(stride, c4) = c3.signed(s) else {
-        return Decoded::Refused(Refusal::BadNumber, place);
-    };
-    if !in_reach(stride) {
-        return Decoded::Refused(Refusal::OutOfRange, place);
-    }
-    let dimension = Dimension {
-        register: register as usize,
-        offset: Bytes(offset),
-        size,
-        stride: Elements(stride),
-    };
-    Decoded::Operation(Operation::Dimension(dimension), c4)
-}
 
-// 3, modifier: register, target field, parameter, behaviour, displacement.
-fn modifier_at(s: &[u8], place: usize, c: Cursor) -> Decoded
-    ensures { result ≡ modifier_at s.now (λ x. decoded.Refused x place) c.at }
-{
-    let Number::Value(register, c1) = c.number(s) else {
-        return Decoded::Refused(Refusal::BadNumber, place);
-    };
-    if 31 < register {
-        return Decoded::Refused(Refusal::OutOfRange, place);
+    // The signed number at the cursor, an offset or a stride: none is refused with 1, one out of its range with 2.
+    fn reach(self, c: Cursor) -> Result<(i64, Cursor), Refused>
+        ensures { MatchResult result (IsRead (signed_at self.entry.sheet.now c.at) is_reach) (IsUnread (signed_at self.entry.sheet.now c.at) is_reach self.entry.place) }
+    {
+        let Some((z, next)) = c.signed(self.sheet) else {
+            return Err(self.refused(Refusal::BadNumber));
+        };
+        if !in_reach(z) {
+            return Err(self.refused(Refusal::OutOfRange));
+        }
+        Ok((z, next))
     }
-    let Number::Value(target, c2) = c1.number(s) else {
-        return Decoded::Refused(Refusal::BadNumber, place);
-    };
-    if 6 < target {
-        return Decoded::Refused(Refusal::OutOfRange, place);
-    }
-    let Number::Value(parameter, c3) = c2.number(s) else {
-        return Decoded::Refused(Refusal::BadNumber, place);
-    };
-    if 2 < parameter {
-        return Decoded::Refused(Refusal::OutOfRange, place);
-    }
-    let Number::Value(behaviour, c4) = c3.number(s) else {
-        return Decoded::Refused(Refusal::BadNumber, place);
-    };
-    if 1 < behaviour {
-        return Decoded::Refused(Refusal::OutOfRange, place);
-    }
-    let Number::Value(displacement, c5) = c4.number(s) else {
-        return Decoded::Refused(Refusal::BadNumber, place);
-    };
-    if 1048576 < displacement {
-        return Decoded::Refused(Refusal::OutOfRange, place);
-    }
-    let modifier = Modifier {
-        register: register as usize,
-        target,
-        parameter: Parameter::coded(parameter),
-        behaviour: Behaviour::coded(behaviour),
-        displacement,
-    };
-    Decoded::Operation(Operation::Modifier(modifier), c5)
-}
 
-// 4, end: register.
-fn end_at(s: &[u8], place: usize, c: Cursor) -> Decoded
-    ensures { result ≡ end_at s.now (λ x. decoded.Refused x place) c.at }
-{
-    let Number::Value(register, c1) = c.number(s) else {
-        return Decoded::Refused(Refusal::BadNumber, place);
-    };
-    if 31 < register {
-        return Decoded::Refused(Refusal::OutOfRange, place);
+    // 1, open: header word, base. Both are read before the word is looked at.
+    #[tactic(auto, unfolding(crate::specs::Operations::open_at))]
+    fn open(self, c: Cursor) -> Result<(Operation, Cursor), Refused>
+        ensures { result ≡ open_at self.entry.sheet.now (err_at self.entry.place) c.at }
+    {
+        let Some((word, c1)) = c.number(self.sheet) else {
+            return Err(self.refused(Refusal::BadNumber));
+        };
+        let (base, c2) = self.number(c1, 1048576)?;
+        match header_of(word as u32) {
+            Ok(header) => Ok((Operation::Open(header, Bytes(base as i64)), c2)),
+            Err(refusal) => Err(self.refused(refusal)),
+        }
     }
-    Decoded::Operation(Operation::End(register as usize), c1)
-}
 
-// 5, run: loop register, count; the calculations follow.
-fn run_at(s: &[u8], place: usize, c: Cursor) -> Decoded
-    ensures { result ≡ run_at s.now (λ x. decoded.Refused x place) c.at }
-{
-    let Number::Value(looped, c1) = c.number(s) else {
-        return Decoded::Refused(Refusal::BadNumber, place);
-    };
-    if 31 < looped {
-        return Decoded::Refused(Refusal::OutOfRange, place);
+    // 2, dimension: register, offset, size, stride.
+    #[tactic(auto, unfolding(crate::specs::Operations::dimension_at))]
+    fn dimension(self, c: Cursor) -> Result<(Operation, Cursor), Refused>
+        ensures { result ≡ dimension_at self.entry.sheet.now (err_at self.entry.place) c.at }
+    {
+        let (register, c1) = self.number(c, 31)?;
+        let (offset, c2) = self.reach(c1)?;
+        let (size, c3) = self.number(c2, 4096)?;
+        let (stride, c4) = self.reach(c3)?;
+        let dimension = Dimension {
+            register: register as usize,
+            offset: Bytes(offset),
+            size,
+            stride: Elements(stride),
+        };
+        Ok((Operation::Dimension(dimension), c4))
     }
-    let Number::Value(count, c2) = c1.number(s) else {
-        return Decoded::Refused(Refusal::BadNumber, place);
-    };
-    if count < 1 {
-        return Decoded::Refused(Refusal::OutOfRange, place);
+
+    // 3, modifier: register, target field, parameter, behaviour, displacement.
+    #[tactic(auto, unfolding(crate::specs::Operations::modifier_at))]
+    fn modifier(self, c: Cursor) -> Result<(Operation, Cursor), Refused>
+        ensures { result ≡ modifier_at self.entry.sheet.now (err_at self.entry.place) c.at }
+    {
+        let (register, c1) = self.number(c, 31)?;
+        let (target, c2) = self.number(c1, 6)?;
+        let (parameter, c3) = self.number(c2, 2)?;
+        let (behaviour, c4) = self.number(c3, 1)?;
+        let (displacement, c5) = self.number(c4, 1048576)?;
+        let modifier = Modifier {
+            register: register as usize,
+            target,
+            parameter: Parameter::coded(parameter),
+            behaviour: Behaviour::coded(behaviour),
+            displacement,
+        };
+        Ok((Operation::Modifier(modifier), c5))
     }
-    if 16 < count {
-        return Decoded::Refused(Refusal::OutOfRange, place);
+
+    // 4, end: register.
+    #[tactic(auto, unfolding(crate::specs::Operations::end_at))]
+    fn end(self, c: Cursor) -> Result<(Operation, Cursor), Refused>
+        ensures { result ≡ end_at self.entry.sheet.now (err_at self.entry.place) c.at }
+    {
+        let (register, c1) = self.number(c, 31)?;
+        Ok((Operation::End(register as usize), c1))
     }
-    Decoded::Operation(Operation::Run(looped as usize, count), c2)
+
+    // 5, run: loop register, count; the calculations follow.
+    #[tactic(auto, unfolding(crate::specs::Operations::run_at))]
+    fn run(self, c: Cursor) -> Result<(Operation, Cursor), Refused>
+        ensures { result ≡ run_at self.entry.sheet.now (err_at self.entry.place) c.at }
+    {
+        let (looped, c1) = self.number(c, 31)?;
+        let (count, c2) = self.number(c1, 16)?;
+        if count < 1 {
+            return Err(self.refused(Refusal::OutOfRange));
+        }
+        Ok((Operation::Run(looped as usize, count), c2))
+    }
 }
 
 // The operation at the cursor. The place of its refusals is its first byte.
-pub fn decode(s: &[u8], c: Cursor) -> Decoded
+#[tactic(auto, unfolding(crate::specs::Operations::operation_at))]
+pub fn decode(s: &[u8], c: Cursor) -> Result<(Operation, Cursor), Refused>
     ensures { result ≡ operation_at s.now c.at }
 {
-    let place = c.at;
-    let Number::Value(kind, next) = c.number(s) else {
-        return Decoded::Refused(Refusal::BadNumber, place);
+    let reader = Reader {
+        sheet: s,
+        place: c.at,
     };
-    if kind == 1 {
-        return open_at(s, place, next);
+    let Some((kind, next)) = c.number(s) else {
+        return Err(reader.refused(Refusal::BadNumber));
+    };
+    match kind {
+        1 => reader.open(next),
+        2 => reader.dimension(next),
+        3 => reader.modifier(next),
+        4 => reader.end(next),
+        5 => reader.run(next),
+        _ => Err(reader.refused(Refusal::OutOfRange)),
     }
-    if kind == 2 {
-        return dimension_at(s, place, next);
-    }
-    if kind == 3 {
-        return modifier_at(s, place, next);
-    }
-    if kind == 4 {
-        return end_at(s, place, next);
-    }
-    if kind == 5 {
-        return run_at(s, place, next);
-    }
-    Decoded::Refused(Refusal::OutOfRange, place)
 }
 
 // The calculation at the cursor. The place of its refusals is its first byte.
-pub fn decode_calculation(s: &[u8], c: Cursor) -> Body
+#[tactic(auto, unfolding(crate::specs::Operations::calculation_at))]
+pub fn decode_calculation(s: &[u8], c: Cursor) -> Result<(Calculation, Cursor), Refused>
     ensures { result ≡ calculation_at s.now c.at }
 {
-    let place = c.at;
-    let Number::Value(code, c1) = c.number(s) else {
-        return Body::Refused(Refusal::BadNumber, place);
+    let reader = Reader {
+        sheet: s,
+        place: c.at,
     };
-    if 11 < code {
-        return Body::Refused(Refusal::OutOfRange, place);
-    }
-    let Number::Value(destination, c2) = c1.number(s) else {
-        return Body::Refused(Refusal::BadNumber, place);
-    };
-    if 31 < destination {
-        return Body::Refused(Refusal::OutOfRange, place);
-    }
-    let Number::Value(first, c3) = c2.number(s) else {
-        return Body::Refused(Refusal::BadNumber, place);
-    };
-    if 31 < first {
-        return Body::Refused(Refusal::OutOfRange, place);
-    }
-    let Number::Value(second, c4) = c3.number(s) else {
-        return Body::Refused(Refusal::BadNumber, place);
-    };
-    if !is_second(code, first, second) {
-        return Body::Refused(Refusal::OutOfRange, place);
+    let (code, c1) = reader.number(c, 11)?;
+    let (destination, c2) = reader.number(c1, 31)?;
+    let (first, c3) = reader.number(c2, 31)?;
+    let (second, c4) = reader.number(c3, 31)?;
+    if has_one_source(code) && second != first {
+        return Err(reader.refused(Refusal::OutOfRange));
     }
     let calculation = Calculation {
         task: Task::coded(code),
@@ -429,5 +339,5 @@ pub fn decode_calculation(s: &[u8], c: Cursor) -> Body
         first: first as usize,
         second: second as usize,
     };
-    Body::Calculation(calculation, c4)
+    Ok((calculation, c4))
 }

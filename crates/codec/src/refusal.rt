@@ -1,8 +1,9 @@
+// Refusals, their numbers, and their places.
 ghost use Rattle.std.specs.Prelude.{◌≡◌};
 ghost use Rattle.codec.specs.Refusals.{number_of, lane_of, operand_of, role_number};
 
 // Which operand of a calculation: in the order in which they are looked at.
-#[derive(Clone, Copy)]
+#[derive(Clone, Copy, Debug, PartialEq, Eq)]
 pub enum Role {
     First,
     Second,
@@ -23,7 +24,7 @@ impl Role {
 }
 
 // Why an operation, a calculation, a sheet or a nest is refused: document 01's table, in its order, then document 02's.
-#[derive(Clone, Copy)]
+#[derive(Clone, Copy, Debug, PartialEq, Eq)]
 pub enum Refusal {
     // 1: a number is cut off, too long or not shortest
     BadNumber,
@@ -63,6 +64,13 @@ pub enum Refusal {
     NoLanes,
 }
 
+// A refusal with its place: where in the sheet or the nest it stands.
+#[derive(Clone, Copy, Debug, PartialEq, Eq)]
+pub struct Refused {
+    pub refusal: Refusal,
+    pub place: usize,
+}
+
 impl Refusal {
     // The refusal's number in document 01's table.
     pub fn number(self) -> u64
@@ -82,19 +90,20 @@ impl Refusal {
             Refusal::StreamEnded => 11,
             Refusal::Widths => 12,
             Refusal::LaneCounts => 13,
-            Refusal::Outside(lane, role) => 14,
+            Refusal::Outside(..) => 14,
             Refusal::Lengths => 15,
             Refusal::LoopRegister => 16,
             Refusal::NoRoom => 17,
             Refusal::NoLanes => 18,
         }
     }
+
     // The lane that 14 names; 0 of any other refusal.
     pub fn lane(self) -> u64
         ensures { result ≡ lane_of self }
     {
         match self {
-            Refusal::Outside(lane, role) => lane as u64,
+            Refusal::Outside(lane, _) => lane as u64,
             _ => 0,
         }
     }
@@ -104,7 +113,7 @@ impl Refusal {
         ensures { result ≡ operand_of self }
     {
         match self {
-            Refusal::Outside(lane, role) => role.number(),
+            Refusal::Outside(_, role) => role.number(),
             _ => 0,
         }
     }

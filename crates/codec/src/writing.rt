@@ -1,12 +1,11 @@
 // Numbers, header words, operations and calculations written into a lent slice.
-ghost use Rattle.std.specs.Prelude.{◌≡◌, true, [], ◌∷◌, ◌++◌, ◌+◌, ◌<◌, ◌≤◌, length, nat_abs};
-ghost use Rattle.std.proofs.lemmas.List.Edits.{sets};
+ghost use Rattle.std.specs.Prelude.{◌≡◌, true, [], ◌++◌, ◌+◌, ◌<◌, ◌≤◌, length, Bool, List, ℕ, Option};
 ghost use Rattle.std.specs.Int.Signed.{mag};
 ghost use Rattle.codec.specs.Numbers.{number_bytes, unsigned_of};
 ghost use Rattle.codec.specs.Headers.{header_in_range, word_of};
-ghost use Rattle.codec.specs.Operations.{signed_bytes, is_register, is_reach, is_count, base_in_range, dimension_in_range, modifier_in_range, operation_in_range, operation_bytes, calculation_in_range, calculation_bytes, parameter_code, behaviour_code, action_code, fold_code, task_code};
+ghost use Rattle.codec.specs.Operations.{signed_bytes, dimension_in_range, modifier_in_range, operation_in_range, operation_bytes, calculation_in_range, calculation_bytes, parameter_code, behaviour_code, action_code, fold_code, task_code};
 ghost use Rattle.codec.specs.declared.operation.Operation.TheVariants as op;
-ghost use Rattle.codec.specs.Writing.{is_number, is_signed, written_to, bytes_after, text_of};
+ghost use Rattle.codec.specs.Writing.{is_number, is_signed, written_to, bytes_after, ready};
 
 use crate::amounts::Bytes;
 use crate::header::{Header, header_in_range, word_in_range};
@@ -14,65 +13,60 @@ use crate::operation::{
     Action, Behaviour, Calculation, Dimension, Fold, Modifier, Operation, Parameter, Task,
     has_one_source, in_reach,
 };
+use arrayvec::ArrayVec;
+use std::marker::Model;
 
-// The place behind what was written, or why nothing was: no room for it, or a field out of range.
-#[derive(Clone, Copy)]
-pub enum Written {
-    To(usize),
+// Why nothing was written: no room for it, or a field out of range.
+#[derive(Clone, Copy, Debug, PartialEq, Eq)]
+pub enum Unwritten {
     NoRoom,
     OutOfRange,
 }
 
-// Bytes that are ready to be written: the first len of them.
-#[derive(Clone, Copy)]
+// Bytes that are ready to be written.
+#[derive(Drop)]
 struct Text {
-    bytes: [u8; 32],
-    len: usize,
+    bytes: ArrayVec<u8, 32>,
 }
 
-fn empty() -> Text
-    ensures { (text_of result ≡ []) × (result.len ≡ 0) }
-{
-    Text {
-        bytes: [0; 32],
-        len: 0,
+impl Model for Text {
+    ghost use Rattle.std.specs.Prelude.{List, ℕ};
+
+    ghost Value = { List ℕ };
+
+    ghost view = { λ t. t.bytes.items };
+}
+
+impl Text {
+    fn new() -> Text
+        ensures { result ≡ [] }
+    {
+        Text {
+            bytes: ArrayVec::new(),
+        }
     }
-}
 
-// One byte more.
-fn push(t: Text, b: u8) -> Text
-    requires { t.len < 32 }
-    ensures { (text_of result ≡ text_of t ++ (b ∷ [])) × (result.len ≡ t.len + 1) }
-{
-    let mut bytes = t.bytes;
-    let len = t.len;
-    bytes[len] = b;
-    let more = len + 1;
-    Text {
-        bytes: bytes,
-        len: more,
+    // The groups of a number more, lowest first, the high bit set on every one but the last.
+    fn number(mut self, v: u64) -> Text
+        requires { (v < 4294967296) × (length self ≤ 27) }
+        ensures { (result ≡ self ++ number_bytes v) × (length result ≤ length self + 5) }
+    {
+        let mut rest = v;
+        while 128 <= rest {
+            self.bytes.push((rest % 128 + 128) as u8);
+            rest /= 128;
+        }
+        self.bytes.push(rest as u8);
+        self
     }
-}
 
-// The groups of a number, lowest first, the high bit set on every one but the last.
-fn with_number(t: Text, v: u64) -> Text
-    requires { (v < 4294967296) × (t.len ≤ 27) }
-    ensures { (text_of result ≡ text_of t ++ number_bytes v) × (result.len ≤ t.len + 5) }
-{
-    let mut text = t;
-    let mut rest = v;
-    while 128 <= rest {
-        text = push(text, (rest % 128 + 128) as u8);
-        rest = rest / 128;
+    // A signed number more.
+    fn signed(self, n: i64) -> Text
+        requires { (mag n < 2147483648) × (length self ≤ 27) }
+        ensures { (result ≡ self ++ signed_bytes n) × (length result ≤ length self + 5) }
+    {
+        self.number(unsigned_of(n))
     }
-    push(text, rest as u8)
-}
-
-fn number_text(v: u64) -> Text
-    requires { v < 4294967296 }
-    ensures { (text_of result ≡ number_bytes v) × (result.len ≤ 5) }
-{
-    with_number(empty(), v)
 }
 
 // How a signed number is written: 2n from 0 on, else -2n-1.
@@ -81,304 +75,166 @@ fn unsigned_of(n: i64) -> u64
     ensures { (result ≡ unsigned_of n) × (result < 4294967296) }
 {
     if n < 0 {
-        return ((-1 - n) as u64) * 2 + 1;
-    }
-    (n as u64) * 2
-}
-
-fn with_signed(t: Text, n: i64) -> Text
-    requires { (mag n < 2147483648) × (t.len ≤ 27) }
-    ensures { (text_of result ≡ text_of t ++ signed_bytes n) × (result.len ≤ t.len + 5) }
-{
-    with_number(t, unsigned_of(n))
-}
-
-// Copies a text that there is room for.
-fn copy(buf: &mut [u8], at: usize, t: Text)
-    requires { (at + t.len ≤ length buf.old) × (t.len ≤ 32) }
-    ensures { buf.new ≡ sets buf.old at (text_of t) }
-{
-    let bytes = t.bytes;
-    let len = t.len;
-    let mut k = 0;
-    while k < len {
-        buf[at + k] = bytes[k];
-        k += 1;
+        ((-1 - n) as u64) * 2 + 1
+    } else {
+        (n as u64) * 2
     }
 }
 
-// Writes a text, if there is room for it.
-fn put(buf: &mut [u8], at: usize, t: Text) -> Written
-    requires { t.len ≤ 32 }
-    ensures { (result ≡ written_to true (text_of t) at (length buf.old)) × (buf.new ≡ bytes_after true (text_of t) buf.old at) }
+// Writes a text, if its fields were in range and there is room for it.
+fn put(buf: &mut [u8], at: usize, text: Option<Text>) -> Result<usize, Unwritten>
+    ensures { (b : Bool) (bytes : List ℕ) → text ≡ ready b bytes → (result ≡ written_to b bytes at (length buf.old)) × (buf.new ≡ bytes_after b bytes buf.old at) }
 {
-    let len = t.len;
-    let size = buf.len();
-    if size < at {
-        return Written::NoRoom;
+    let Some(text) = text else {
+        return Err(Unwritten::OutOfRange);
+    };
+    let len = text.bytes.len();
+    if buf.len() < at {
+        return Err(Unwritten::NoRoom);
     }
-    if size - at < len {
-        return Written::NoRoom;
+    let room = buf.len() - at;
+    if room < len {
+        return Err(Unwritten::NoRoom);
     }
-    copy(buf, at, t);
-    let behind = at + len;
-    Written::To(behind)
+    buf[at..at + len].copy_from_slice(text.bytes.as_slice());
+    Ok(at + len)
+}
+
+// The text of a number below 2^32.
+fn number_text(v: u64) -> Option<Text>
+    ensures { result ≡ ready (is_number v) (number_bytes v) }
+{
+    if v < 4294967296 {
+        Some(Text::new().number(v))
+    } else {
+        None
+    }
+}
+
+// The text of a signed number from -2^31 to 2^31 - 1.
+fn signed_text(n: i64) -> Option<Text>
+    ensures { result ≡ ready (is_signed n) (signed_bytes n) }
+{
+    if -2147483648 <= n && n < 2147483648 {
+        Some(Text::new().signed(n))
+    } else {
+        None
+    }
+}
+
+// The text of a header: its word, bits 19-15 and 23-22 zero.
+fn header_text(h: Header) -> Option<Text>
+    ensures { result ≡ ready (header_in_range h) (number_bytes (word_of h)) }
+{
+    if header_in_range(h) {
+        Some(Text::new().number(word_in_range(h)))
+    } else {
+        None
+    }
 }
 
 // Writes a number below 2^32.
-pub fn put_number(buf: &mut [u8], at: usize, v: u64) -> Written
+pub fn put_number(buf: &mut [u8], at: usize, v: u64) -> Result<usize, Unwritten>
     ensures { (result ≡ written_to (is_number v) (number_bytes v) at (length buf.old)) × (buf.new ≡ bytes_after (is_number v) (number_bytes v) buf.old at) }
 {
-    if v < 4294967296 {
-        let t = number_text(v);
-        return put(buf, at, t);
-    }
-    Written::OutOfRange
-}
-
-// Whether a signed number lies in -2^31 to 2^31 - 1.
-fn signed_in_range(n: i64) -> bool
-    ensures { result ≡ is_signed n }
-{
-    if n < -2147483648 {
-        return false;
-    }
-    n < 2147483648
+    put(buf, at, number_text(v))
 }
 
 // Writes a signed number from -2^31 to 2^31 - 1.
-pub fn put_signed(buf: &mut [u8], at: usize, n: i64) -> Written
+pub fn put_signed(buf: &mut [u8], at: usize, n: i64) -> Result<usize, Unwritten>
     ensures { (result ≡ written_to (is_signed n) (signed_bytes n) at (length buf.old)) × (buf.new ≡ bytes_after (is_signed n) (signed_bytes n) buf.old at) }
 {
-    if signed_in_range(n) {
-        let t = with_signed(empty(), n);
-        return put(buf, at, t);
-    }
-    Written::OutOfRange
+    put(buf, at, signed_text(n))
 }
 
 // Writes a header as its word, bits 19-15 and 23-22 zero.
-pub fn put_header(buf: &mut [u8], at: usize, h: Header) -> Written
+pub fn put_header(buf: &mut [u8], at: usize, h: Header) -> Result<usize, Unwritten>
     ensures { (result ≡ written_to (header_in_range h) (number_bytes (word_of h)) at (length buf.old)) × (buf.new ≡ bytes_after (header_in_range h) (number_bytes (word_of h)) buf.old at) }
 {
-    if header_in_range(h) {
-        let t = number_text(word_in_range(h));
-        return put(buf, at, t);
-    }
-    Written::OutOfRange
+    put(buf, at, header_text(h))
 }
 
-fn base_in_range(b: Bytes) -> bool
-    ensures { result ≡ base_in_range b }
+// The text of an open: header word, base.
+#[tactic(auto, unfolding(crate::specs::Operations::operation_in_range, crate::specs::Operations::operation_bytes))]
+fn open_text(h: Header, b: Bytes) -> Option<Text>
+    ensures { result ≡ ready (operation_in_range (op.Open h b)) (operation_bytes 0 (op.Open h b)) }
 {
-    let n = b.0;
-    if n < 0 {
-        return false;
+    if header_in_range(h) && 0 <= b.0 && b.0 <= 1048576 {
+        let text = Text::new()
+            .number(1)
+            .number(word_in_range(h))
+            .number(b.0 as u64);
+        Some(text)
+    } else {
+        None
     }
-    n <= 1048576
 }
 
-fn dimension_in_range(d: Dimension) -> bool
-    ensures { result ≡ dimension_in_range d }
+// The text of a dimension: register, offset, size, stride.
+#[tactic(auto, unfolding(crate::specs::Operations::operation_bytes))]
+fn dimension_text(d: Dimension) -> Option<Text>
+    ensures { result ≡ ready (dimension_in_range d) (operation_bytes 0 (op.Dimension d)) }
 {
-    let offset = d.offset;
-    let stride = d.stride;
-    if 31 < d.register {
-        return false;
+    if d.register <= 31 && in_reach(d.offset.0) && d.size <= 4096 && in_reach(d.stride.0) {
+        let text = Text::new()
+            .number(2)
+            .number(d.register as u64)
+            .signed(d.offset.0)
+            .number(d.size)
+            .signed(d.stride.0);
+        Some(text)
+    } else {
+        None
     }
-    if in_reach(offset.0) {
-        if 4096 < d.size {
-            return false;
-        }
-        return in_reach(stride.0);
-    }
-    false
 }
 
-fn modifier_in_range(m: Modifier) -> bool
-    ensures { result ≡ modifier_in_range m }
+// The text of a modifier: register, target, parameter, behaviour, displacement.
+#[tactic(auto, unfolding(crate::specs::Operations::operation_bytes))]
+fn modifier_text(m: Modifier) -> Option<Text>
+    ensures { result ≡ ready (modifier_in_range m) (operation_bytes 0 (op.Modifier m)) }
 {
-    if 31 < m.register {
-        return false;
-    }
-    if 6 < m.target {
-        return false;
-    }
-    m.displacement <= 1048576
-}
-
-fn run_in_range(register: usize, count: u64) -> bool
-    ensures { result ≡ operation_in_range (op.Run register count) }
-{
-    if 31 < register {
-        return false;
-    }
-    if count < 1 {
-        return false;
-    }
-    count <= 16
-}
-
-fn open_in_range(h: Header, b: Bytes) -> bool
-    ensures { result ≡ operation_in_range (op.Open h b) }
-{
-    if header_in_range(h) {
-        return base_in_range(b);
-    }
-    false
-}
-
-// Whether every field of an operation is in its range.
-fn operation_in_range(o: Operation) -> bool
-    ensures { result ≡ operation_in_range o }
-{
-    match o {
-        Operation::Open(h, b) => open_in_range(h, b),
-        Operation::Dimension(d) => dimension_in_range(d),
-        Operation::Modifier(m) => modifier_in_range(m),
-        Operation::End(register) => register <= 31,
-        Operation::Run(register, count) => run_in_range(register, count),
+    if m.register <= 31 && m.target <= 6 && m.displacement <= 1048576 {
+        let text = Text::new()
+            .number(3)
+            .number(m.register as u64)
+            .number(m.target)
+            .number(m.parameter.into())
+            .number(m.behaviour.into())
+            .number(m.displacement);
+        Some(text)
+    } else {
+        None
     }
 }
 
-fn parameter_code(p: Parameter) -> u64
-    ensures { (result ≡ parameter_code p) × (result ≤ 2) }
+// The text of an end: register.
+#[tactic(auto, unfolding(crate::specs::Operations::operation_in_range, crate::specs::Operations::operation_bytes))]
+fn end_text(register: usize) -> Option<Text>
+    ensures { result ≡ ready (operation_in_range (op.End register)) (operation_bytes 0 (op.End register)) }
 {
-    match p {
-        Parameter::Size => 0,
-        Parameter::Offset => 1,
-        Parameter::Stride => 2,
+    if register <= 31 {
+        Some(Text::new().number(4).number(register as u64))
+    } else {
+        None
     }
 }
 
-fn behaviour_code(b: Behaviour) -> u64
-    ensures { (result ≡ behaviour_code b) × (result ≤ 1) }
+// The text of a run: register, count.
+#[tactic(auto, unfolding(crate::specs::Operations::operation_in_range, crate::specs::Operations::operation_bytes))]
+fn run_text(register: usize, count: u64) -> Option<Text>
+    ensures { result ≡ ready (operation_in_range (op.Run register count)) (operation_bytes 0 (op.Run register count)) }
 {
-    match b {
-        Behaviour::Add => 0,
-        Behaviour::Subtract => 1,
+    if register <= 31 && 1 <= count && count <= 16 {
+        Some(Text::new().number(5).number(register as u64).number(count))
+    } else {
+        None
     }
 }
 
-fn action_code(a: Action) -> u64
-    ensures { (result ≡ action_code a) × (result ≤ 7) }
-{
-    match a {
-        Action::Copy => 0,
-        Action::Add => 1,
-        Action::Subtract => 2,
-        Action::And => 3,
-        Action::Or => 4,
-        Action::Xor => 5,
-        Action::Smaller => 6,
-        Action::Larger => 7,
-    }
-}
-
-fn fold_code(f: Fold) -> u64
-    ensures { (result ≡ fold_code f) × (result ≤ 11) }
-{
-    match f {
-        Fold::Sum => 8,
-        Fold::Smallest => 9,
-        Fold::Largest => 10,
-        Fold::FirstLargest => 11,
-    }
-}
-
-fn task_code(t: Task) -> u64
-    ensures { (result ≡ task_code t) × (result ≤ 11) }
-{
-    match t {
-        Task::Each(action) => action_code(action),
-        Task::All(fold) => fold_code(fold),
-    }
-}
-
-// Whether every field of a calculation is in its range; where there is one source only, the second is the first.
-fn calculation_in_range(c: Calculation) -> bool
-    ensures { result ≡ calculation_in_range c }
-{
-    let t = c.task;
-    if 31 < c.destination {
-        return false;
-    }
-    if 31 < c.first {
-        return false;
-    }
-    if 31 < c.second {
-        return false;
-    }
-    if has_one_source(task_code(t)) {
-        return c.second == c.first;
-    }
-    true
-}
-
-// A base in range as a number.
-fn base_of(b: Bytes) -> u64
-    requires { base_in_range b ≡ true }
-    ensures { (result ≡ nat_abs b.0) × (result < 4294967296) }
-{
-    b.0 as u64
-}
-
-fn open_text(h: Header, b: Bytes) -> Text
-    requires { operation_in_range (op.Open h b) ≡ true }
-    ensures { (text_of result ≡ operation_bytes 0 (op.Open h b)) × (result.len ≤ 32) }
-{
-    let kind = number_text(1);
-    let word = with_number(kind, word_in_range(h));
-    with_number(word, base_of(b))
-}
-
-fn dimension_text(d: Dimension) -> Text
-    requires { dimension_in_range d ≡ true }
-    ensures { (text_of result ≡ operation_bytes 0 (op.Dimension d)) × (result.len ≤ 32) }
-{
-    let offset = d.offset;
-    let stride = d.stride;
-    let kind = number_text(2);
-    let one = with_number(kind, d.register as u64);
-    let two = with_signed(one, offset.0);
-    let three = with_number(two, d.size);
-    with_signed(three, stride.0)
-}
-
-fn modifier_text(m: Modifier) -> Text
-    requires { modifier_in_range m ≡ true }
-    ensures { (text_of result ≡ operation_bytes 0 (op.Modifier m)) × (result.len ≤ 32) }
-{
-    let parameter = m.parameter;
-    let behaviour = m.behaviour;
-    let kind = number_text(3);
-    let one = with_number(kind, m.register as u64);
-    let two = with_number(one, m.target);
-    let three = with_number(two, parameter_code(parameter));
-    let four = with_number(three, behaviour_code(behaviour));
-    with_number(four, m.displacement)
-}
-
-fn end_text(register: usize) -> Text
-    requires { is_register register ≡ true }
-    ensures { (text_of result ≡ operation_bytes 0 (op.End register)) × (result.len ≤ 32) }
-{
-    with_number(number_text(4), register as u64)
-}
-
-fn run_text(register: usize, count: u64) -> Text
-    requires { operation_in_range (op.Run register count) ≡ true }
-    ensures { (text_of result ≡ operation_bytes 0 (op.Run register count)) × (result.len ≤ 32) }
-{
-    let kind = number_text(5);
-    let one = with_number(kind, register as u64);
-    with_number(one, count)
-}
-
-// The bytes of an operation in range.
-fn operation_text(o: Operation) -> Text
-    requires { operation_in_range o ≡ true }
-    ensures { (text_of result ≡ operation_bytes 0 o) × (result.len ≤ 32) }
+// The text of an operation, bits 19-15 and 23-22 of a header word zero.
+#[tactic(auto, unfolding(crate::specs::Operations::operation_in_range, crate::specs::Operations::operation_bytes))]
+fn operation_text(o: Operation) -> Option<Text>
+    ensures { result ≡ ready (operation_in_range o) (operation_bytes 0 o) }
 {
     match o {
         Operation::Open(h, b) => open_text(h, b),
@@ -390,35 +246,117 @@ fn operation_text(o: Operation) -> Text
 }
 
 // Writes an operation, bits 19-15 and 23-22 of a header word zero.
-pub fn put_operation(buf: &mut [u8], at: usize, o: Operation) -> Written
+pub fn put_operation(buf: &mut [u8], at: usize, o: Operation) -> Result<usize, Unwritten>
     ensures { (result ≡ written_to (operation_in_range o) (operation_bytes 0 o) at (length buf.old)) × (buf.new ≡ bytes_after (operation_in_range o) (operation_bytes 0 o) buf.old at) }
 {
-    if operation_in_range(o) {
-        let t = operation_text(o);
-        return put(buf, at, t);
-    }
-    Written::OutOfRange
+    put(buf, at, operation_text(o))
 }
 
-// The bytes of a calculation in range.
-fn calculation_text(c: Calculation) -> Text
-    requires { calculation_in_range c ≡ true }
-    ensures { (text_of result ≡ calculation_bytes c) × (result.len ≤ 32) }
+// The text of a calculation; where there is one source only, the second is the first.
+#[tactic(auto, unfolding(crate::specs::Operations::calculation_bytes))]
+fn calculation_text(c: Calculation) -> Option<Text>
+    ensures { result ≡ ready (calculation_in_range c) (calculation_bytes c) }
 {
-    let t = c.task;
-    let code = number_text(task_code(t));
-    let one = with_number(code, c.destination as u64);
-    let two = with_number(one, c.first as u64);
-    with_number(two, c.second as u64)
+    let code = u64::from(c.task);
+    if c.destination <= 31
+        && c.first <= 31
+        && c.second <= 31
+        && (!has_one_source(code) || c.second == c.first)
+    {
+        let text = Text::new()
+            .number(code)
+            .number(c.destination as u64)
+            .number(c.first as u64)
+            .number(c.second as u64);
+        Some(text)
+    } else {
+        None
+    }
 }
 
 // Writes a calculation.
-pub fn put_calculation(buf: &mut [u8], at: usize, c: Calculation) -> Written
+pub fn put_calculation(buf: &mut [u8], at: usize, c: Calculation) -> Result<usize, Unwritten>
     ensures { (result ≡ written_to (calculation_in_range c) (calculation_bytes c) at (length buf.old)) × (buf.new ≡ bytes_after (calculation_in_range c) (calculation_bytes c) buf.old at) }
 {
-    if calculation_in_range(c) {
-        let t = calculation_text(c);
-        return put(buf, at, t);
+    put(buf, at, calculation_text(c))
+}
+
+// The codes by which calculations and modifiers are written.
+impl From<Parameter> for u64 {
+    ghost use Rattle.std.specs.Prelude.{◌≡◌};
+    ghost use Rattle.codec.specs.Operations.{parameter_code};
+
+    ghost from_gives = { λ p n. n ≡ parameter_code p };
+
+    fn from(p: Parameter) -> u64 {
+        match p {
+            Parameter::Size => 0,
+            Parameter::Offset => 1,
+            Parameter::Stride => 2,
+        }
     }
-    Written::OutOfRange
+}
+
+impl From<Behaviour> for u64 {
+    ghost use Rattle.std.specs.Prelude.{◌≡◌};
+    ghost use Rattle.codec.specs.Operations.{behaviour_code};
+
+    ghost from_gives = { λ b n. n ≡ behaviour_code b };
+
+    fn from(b: Behaviour) -> u64 {
+        match b {
+            Behaviour::Add => 0,
+            Behaviour::Subtract => 1,
+        }
+    }
+}
+
+impl From<Action> for u64 {
+    ghost use Rattle.std.specs.Prelude.{◌≡◌};
+    ghost use Rattle.codec.specs.Operations.{action_code};
+
+    ghost from_gives = { λ a n. n ≡ action_code a };
+
+    fn from(a: Action) -> u64 {
+        match a {
+            Action::Copy => 0,
+            Action::Add => 1,
+            Action::Subtract => 2,
+            Action::And => 3,
+            Action::Or => 4,
+            Action::Xor => 5,
+            Action::Smaller => 6,
+            Action::Larger => 7,
+        }
+    }
+}
+
+impl From<Fold> for u64 {
+    ghost use Rattle.std.specs.Prelude.{◌≡◌};
+    ghost use Rattle.codec.specs.Operations.{fold_code};
+
+    ghost from_gives = { λ f n. n ≡ fold_code f };
+
+    fn from(f: Fold) -> u64 {
+        match f {
+            Fold::Sum => 8,
+            Fold::Smallest => 9,
+            Fold::Largest => 10,
+            Fold::FirstLargest => 11,
+        }
+    }
+}
+
+impl From<Task> for u64 {
+    ghost use Rattle.std.specs.Prelude.{◌≡◌};
+    ghost use Rattle.codec.specs.Operations.{task_code};
+
+    ghost from_gives = { λ t n. n ≡ task_code t };
+
+    fn from(t: Task) -> u64 {
+        match t {
+            Task::Each(action) => action.into(),
+            Task::All(fold) => fold.into(),
+        }
+    }
 }

@@ -1,8 +1,13 @@
--- One byte more, stored or loaded; bytes stored in two parts.
-use Rattle.std.proofs.Common.{◌≡◌, ℕ, zero, suc, ◌+◌, ◌-◌, ◌*◌, ◌/◌, ◌%◌, ◌^◌, ◌<◌, ◌≤◌, List, [], ◌∷◌, ◌++◌, length, get_or, set, sym, ap, ◌∙◌, mul_assoc, arith, pow_mono, pow-add, shr-shr}
-use lib.Seq.{sets}
+-- One byte more, stored or loaded; two, four and eight at once; bytes stored in two parts.
+use Rattle.std.proofs.Common.{◌≡◌, ℕ, zero, suc, ◌+◌, ◌-◌, ◌*◌, ◌/◌, ◌%◌, ◌^◌, ◌<◌, ◌≤◌, List, [], ◌∷◌, ◌++◌, length, get_or, set, take, drop, sym, refl, ap, ◌∙◌, append_assoc, arith, pow_mono, pow-add, pow-suc}
+use Rattle.std.proofs.Math.Nat.{div-div-eq-div-mul}
+use Rattle.std.proofs.lemmas.List.{get_or-take}
+use Rattle.std.proofs.lemmas.List.Edits.{sets, sets-eq}
+use Rattle.std.proofs.lemmas.Nat.{mod-pow-add}
+use borrow.Rule.Slice.PartMut.{put_mid, Post-is}
+use Rattle.std.specs.Int.{w16, w32, w64, byte_at, bytes_low_first, from_le_bytes, to_le_bytes}
 use Rattle.engine.specs.Memory.{value_at, little_endian}
-use Rattle.engine.specs.ByteLaws.{length-little}
+use Rattle.engine.specs.ByteLaws.{value-drop}
 
 little-next : (n m x : ℕ) → n ≡ suc m → little_endian n x ≡ x % 256 ∷ little_endian m (x / 256)
 unfolding little_endian
@@ -47,10 +52,75 @@ pub one-loaded : (l : List ℕ) (at n : ℕ) → n ≡ 1 → value_at l at n ≡
 unfolding value_at
 one-loaded l at n e = rw e (omega arith)
 
-pub one_byte : (b n : ℕ) → n ≡ 1 → b < 256 → b < 2 ^ (8 * n)
-one_byte b n e h = rw e (omega arith)
+-- ---- two, four and eight bytes
 
--- ---- two halves
+-- a number among the first n bytes
+value-take : (l : List ℕ) (n k w : ℕ) → k + w ≤ n → value_at (take n l) k w ≡ value_at l k w
+unfolding value_at
+value-take l n k zero h = refl
+value-take l n k (suc w) h = rw (get_or-take n l k 0 (omega arith), value-take l n (suc k) w (omega arith))
+
+-- the number of w bytes that were taken from byte k on
+value_taken : (l : List ℕ) (k w : ℕ) {bytes : List ℕ} → bytes ≡ take w (drop k l) → value_at bytes 0 w ≡ value_at l k w
+value_taken l k w e = ap (λ m. value_at m 0 w) e ∙ value-take (drop k l) w 0 w (omega arith) ∙ sym (value-drop l k w)
+
+pub loaded_2 : (l : List ℕ) (k : ℕ) {bytes : List ℕ} → bytes ≡ take 2 (drop k l) → from_le_bytes w16 bytes ≡ value_at l k 2
+unfolding value_at
+loaded_2 l k e = let v = value_taken l k 2 e in omega (arith, v)
+
+pub loaded_4 : (l : List ℕ) (k : ℕ) {bytes : List ℕ} → bytes ≡ take 4 (drop k l) → from_le_bytes w32 bytes ≡ value_at l k 4
+unfolding value_at
+loaded_4 l k e = let v = value_taken l k 4 e in omega (arith, v)
+
+pub loaded_8 : (l : List ℕ) (k : ℕ) {bytes : List ℕ} → bytes ≡ take 8 (drop k l) → from_le_bytes w64 bytes ≡ value_at l k 8
+unfolding value_at
+loaded_8 l k e = let v = value_taken l k 8 e in omega (arith, v)
+
+byte-is : (k x : ℕ) → byte_at k x ≡ x / 256 ^ k % 256
+byte-is zero x = omega arith
+byte-is (suc k) x = refl
+
+-- n bytes from byte k on, lowest first
+low-first : (k n x : ℕ) → bytes_low_first k n x ≡ little_endian n (x / 256 ^ k)
+unfolding little_endian
+low-first k zero x = refl
+low-first k (suc n) x =
+    let p : 256 ^ suc k ≡ 256 ^ k * 256 = pow-suc 256 k in
+    let e : x / 256 ^ k / 256 ≡ x / 256 ^ suc k = rw p (div-div-eq-div-mul x (256 ^ k) 256) in
+    rw (byte-is k x, low-first (suc k) n x, e)
+
+-- the n lowest bytes of a number are those of what it is cut to n bytes
+little-cut : (n x : ℕ) → little_endian n (x % 2 ^ (8 * n)) ≡ little_endian n x
+unfolding little_endian
+little-cut zero x = refl
+little-cut (suc n) x =
+    let m : 8 * suc n ≡ 8 * n + 8 = omega arith in
+    let e : x % 2 ^ (8 * n + 8) ≡ x / 256 % 2 ^ (8 * n) * 256 + x % 256 = mod-pow-add x (8 * n) 8 in
+    let f : x % 2 ^ (8 * n + 8) % 256 ≡ x % 256 = omega (arith, e) in
+    let g : x % 2 ^ (8 * n + 8) / 256 ≡ x / 256 % 2 ^ (8 * n) = omega (arith, e) in
+    rw (m, f, g, little-cut n (x / 256))
+
+low-bytes : (n x : ℕ) → bytes_low_first 0 n (x % 2 ^ (8 * n)) ≡ little_endian n x
+low-bytes n x =
+    let e : x % 2 ^ (8 * n) / 1 ≡ x % 2 ^ (8 * n) = omega arith in
+    low-first 0 n (x % 2 ^ (8 * n)) ∙ ap (little_endian n) e ∙ little-cut n x
+
+pub stored_1 : (x : ℕ) → x % 256 ∷ [] ≡ little_endian 1 x
+unfolding little_endian
+stored_1 x = refl
+
+pub stored_2 : (x : ℕ) → to_le_bytes w16 (x % 65536) ≡ little_endian 2 x
+stored_2 x = low-bytes 2 x
+
+pub stored_4 : (x : ℕ) → to_le_bytes w32 (x % 4294967296) ≡ little_endian 4 x
+stored_4 x = low-bytes 4 x
+
+pub stored_8 : (x : ℕ) → to_le_bytes w64 x ≡ little_endian 8 x
+stored_8 x =
+    let e : x / 1 ≡ x = omega arith in
+    low-first 0 8 x ∙ ap (little_endian 8) e
+
+-- ---- in two parts
 
 -- what is stored in two parts
 pub sets-append : (l : List ℕ) (i : ℕ) (xs ys : List ℕ) → sets l i (xs ++ ys) ≡ sets (sets l i xs) (i + length xs) ys
@@ -59,38 +129,9 @@ sets-append l i (x ∷ xs) ys =
     let e : suc i + length xs ≡ i + suc (length xs) = omega arith in
     sets-append (set l i x) (suc i) xs ys ∙ ap (λ j. sets (sets (set l i x) (suc i) xs) j ys) e
 
--- a number of m + n bytes is that of the first m, and 2^(8m) times that of the others
-pub value-join : (l : List ℕ) (k m n : ℕ) → value_at l k (m + n) ≡ value_at l k m + 2 ^ (8 * m) * value_at l (k + m) n
-unfolding value_at
-value-join l k zero n =
-    let e : 0 + n ≡ n = omega arith in
-    let f : k + 0 ≡ k = omega arith in
-    rw (e, f) (omega arith)
-value-join l k (suc m) n =
-    let e : suc m + n ≡ suc (m + n) = omega arith in
-    let f : suc k + m ≡ k + suc m = omega arith in
-    let g : 8 * suc m ≡ 8 + 8 * m = omega arith in
-    let v = value_at l (k + suc m) n in
-    let p : 2 ^ (8 + 8 * m) * v ≡ 256 * (2 ^ (8 * m) * v) = ap (λ x. x * v) (pow-add 2 8 (8 * m)) ∙ mul_assoc 256 (2 ^ (8 * m)) v in
-    rw (e, g, p, value-join l (suc k) m n, f) (omega arith)
-
--- the m + n lowest bytes of a number are the m lowest, and the n lowest of the rest
-little-join : (m n x : ℕ) → little_endian (m + n) x ≡ little_endian m x ++ little_endian n (x / 2 ^ (8 * m))
-unfolding little_endian
-little-join zero n x =
-    let e : 0 + n ≡ n = omega arith in
-    let f : x / 1 ≡ x = omega arith in
-    rw (e, f)
-little-join (suc m) n x =
-    let e : suc m + n ≡ suc (m + n) = omega arith in
-    let g : 8 * suc m ≡ 8 + 8 * m = omega arith in
-    rw (e, g, little-join m n (x / 256), shr-shr x 8 (8 * m))
-
--- .. and are stored so
-pub stored-join : (l : List ℕ) (at m n x : ℕ) {half whole : List ℕ}
-    → half ≡ sets l at (little_endian m x) → whole ≡ sets half (at + m) (little_endian n (x / 2 ^ (8 * m))) → whole ≡ sets l at (little_endian (m + n) x)
-stored-join l at m n x {half} {whole} p q =
-    q
-    ∙ ap (λ h. sets h (at + m) (little_endian n (x / 2 ^ (8 * m)))) p
-    ∙ ap (λ i. sets (sets l at (little_endian m x)) (at + i) (little_endian n (x / 2 ^ (8 * m)))) (sym (length-little m x))
-    ∙ sym (ap (sets l at) (little-join m n x) ∙ sets-append l at (little_endian m x) (little_endian n (x / 2 ^ (8 * m))))
+-- a part of a slice written over
+pub placed : (l bytes : List ℕ) (from to : ℕ) → from ≤ to → to ≤ length l → length bytes ≡ to - from → put_mid from (to - from) l bytes ≡ sets l from bytes
+placed l bytes from to h p e =
+    let n : to ≡ from + length bytes = omega arith in
+    ap (λ m. take from l ++ (bytes ++ m)) (Post-is from to l h ∙ ap (λ i. drop i l) n)
+    ∙ sym (sets-eq bytes l from (omega arith) ∙ append_assoc (take from l) bytes (drop (from + length bytes) l))

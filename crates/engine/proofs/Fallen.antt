@@ -3,7 +3,7 @@
 --   body_at                     each calculation of a body stands at its place
 --   unread-number, operation-number   no sheet is refused with 14 before its run
 --   fell
-use Rattle.std.proofs.Common.{◌≡◌, ℕ, zero, suc, ◌+◌, ◌%◌, ◌<◌, ◌≤◌, true, List, [], ◌∷◌, length, get_or, sym, ap, ◌∙◌, subst, mod-lt, arith}
+use Rattle.std.proofs.Common.{◌≡◌, ℕ, zero, suc, ◌+◌, ◌%◌, ◌<◌, ◌≤◌, true, List, [], ◌∷◌, length, get_or, sym, ap, ◌∙◌, subst, mod-lt, arith, Ok}
 use Rattle.codec.specs.NumberLaws.{AreBytes}
 use Rattle.codec.specs.Refusals.{number_of}
 use Rattle.codec.specs.Operations.{calculation_at}
@@ -37,7 +37,8 @@ use Rattle.engine.proofs.Promise1.{sheet-runs, promise1}
 use Rattle.engine.specs.declared.register.Register.{Register}
 use Rattle.engine.specs.declared.register.Machine.{Machine}
 use Rattle.engine.specs.declared.run.Placed.{Placed}
-use Rattle.engine.specs.declared.run.Verdict.TheVariants.{Done, Refused}
+use Rattle.engine.specs.Run.{refusal_at}
+use Rattle.engine.specs.RunLaws.{same-refusal}
 
 -- each calculation of a body stands at its place
 body_at : (s : List ℕ) (at : ℕ) (cs : List Placed) (to : ℕ) → BodyAt s at cs to → (k : ℕ) → k < length cs
@@ -90,12 +91,12 @@ operand_below s at c to role.First h = omega (arith, h.first)
 operand_below s at c to role.Second h = omega (arith, h.second)
 operand_below s at c to role.Destination h = omega (arith, h.destination)
 
-module _ (vl : ℕ) (s memory : List ℕ) (p : AreBytes s) (lane : ℕ) (r : Role) (place : ℕ) (v : (run vl s memory).verdict ≡ Refused (Outside lane r) place) where
+module _ (vl : ℕ) (s memory : List ℕ) (p : AreBytes s) (lane : ℕ) (r : Role) (place : ℕ) (v : (run vl s memory).verdict ≡ refusal_at (Outside lane r) place) where
   -- a refusal before the run has another number
   early : {X : Type 0} (w : World) (x : Refusal) (at : ℕ) → run vl s memory ≡ refused_at w x at → (number_of x ≡ 14 → ⊥) → X
   early w x at e n =
-      let q : Refused x at ≡ Refused (Outside lane r) place = sym (ap (λ g. g.verdict) e) ∙ v in
-      let z : x ≡ Outside lane r = cc in
+      let q : refusal_at x at ≡ refusal_at (Outside lane r) place = sym (ap (λ g. g.verdict) e) ∙ v in
+      let z : x ≡ Outside lane r = same-refusal x (Outside lane r) at place q in
       absurd (n (ap number_of z))
 
   -- in a run: the next calculation in turn
@@ -139,7 +140,7 @@ module _ (vl : ℕ) (s memory : List ℕ) (p : AreBytes s) (lane : ℕ) (r : Rol
   from-right : Right vl s memory (run vl s memory) → Fell vl s memory lane r place
   from-right (Right.lengths n x k e) = early _ x 0 e (λ z. omega (arith, z, k))
   from-right (Right.over f os m t e) =
-      let q : Done ≡ Refused (Outside lane r) place = sym (ap (λ g. g.verdict) e) ∙ v in absurd (let z : ◌≡◌ {A = ℕ} 0 1 = cc in omega arith)
+      let q : refusal_at (Outside lane r) place ≡ Ok tt = sym v ∙ ap (λ g. g.verdict) e in absurd (let z : ◌≡◌ {A = ℕ} 0 1 = cc in omega arith)
   from-right (Right.unread f os at m x t h u e) = early _ x at e (λ z. omega (arith, z, unread-number s at x u))
   from-right (Right.refused f os at m o to x t w c e) = early _ x at e (λ z. omega (arith, z, operation-number o _ x c))
   from-right (Right.broken f os at m loop count from cs at' x t w b h u e) = early _ x at' e (λ z. omega (arith, z, faults-number s x at' [] _ u))
@@ -148,6 +149,6 @@ module _ (vl : ℕ) (s memory : List ℕ) (p : AreBytes s) (lane : ℕ) (r : Rol
   from-right (Right.ran f os at m loop cs t w l h) = in-run f os at m loop cs t w l h
 
 -- a run that is refused with 14
-pub fell : (vl : ℕ) (s memory : List ℕ) → AreBytes s → (lane : ℕ) (r : Role) (place : ℕ) → (run vl s memory).verdict ≡ Refused (Outside lane r) place
+pub fell : (vl : ℕ) (s memory : List ℕ) → AreBytes s → (lane : ℕ) (r : Role) (place : ℕ) → (run vl s memory).verdict ≡ refusal_at (Outside lane r) place
     → Fell vl s memory lane r place
 fell vl s memory p lane r place v = from-right vl s memory p lane r place v (promise1 vl s memory p).right

@@ -3,26 +3,28 @@
 --   stands, nothing               a search stands where what is to come says, or past the last element
 --   found, below, there, small    one that found an element stands at it: its position and index
 --   lies                          and its address
---   arrives-element, element-here, arrives   a search over stops has arrived where what is to come says
---   comes-same, to-first, to_none, entered, no-further, stop-below, stop-here   what is to come, pass by pass; where the search has arrived
+--   arrives-element, arrives-some, element-here, arrives   a search over stops has arrived where what is to come says
+--   comes-same, to-first, to_none, entered, stop-below, stop-here   what is to come, pass by pass; where the search has arrived
 --   stop-lies, held-told          its address; whether it is an element
---   uncoupled-in, coupled-in      the coupling in a row
-use Rattle.std.proofs.Common.{◌≡◌, ℕ, zero, suc, ◌-◌, ◌<◌, ◌≤◌, Bool, true, false, cond, not, ltb, List, [], ◌∷◌, ◌++◌, map, length, get_or, take, drop, replicate, sym, refl, ap, ◌∙◌, subst, arith, drop_at, ltb-false, ltb-true, le-ltb, lt-ltb}
+use Rattle.std.specs.Prelude.{None}
+use Rattle.std.proofs.Common.{◌≡◌, ℕ, zero, suc, ◌-◌, ◌<◌, ◌≤◌, Bool, true, false, cond, not, ltb, Option, List, [], ◌∷◌, ◌++◌, map, length, get_or, take, drop, replicate, sym, refl, ap, ◌∙◌, subst, arith, drop_at, ltb-true, le-ltb, lt-ltb}
 use lib.ListN.{length-replicate}
 use lib.Dec.{leb-suc-suc}
-use Rattle.codec.specs.declared.header.Coupling.TheVariants.{Uncoupled, Coupled}
+use Rattle.std.specs.Option.{is_some}
 use Rattle.engine.specs.Loops.{size_at, join, loops, elements}
 use Rattle.engine.specs.Chunks.{or_one, pass_stops, stops, is_element, nothing_at}
 use Rattle.engine.specs.Addresses.{address}
 use Rattle.engine.specs.AddressLaws.{Small}
 use Rattle.engine.specs.Good.{Accepted}
 use Rattle.engine.specs.Registers.{index_of}
-use Rattle.engine.specs.Rows.{coupling_in}
-use Rattle.engine.specs.Walk.{at, is_none, bare, Element, Stands, Stop, Arrives, Comes}
+use Rattle.engine.specs.Walk.{at, is_none, bare, Element, Stands, Stop, Arrives, Comes, comes_empty}
 use Rattle.engine.specs.IndexLaws.{roomy, element-length, element-small, address-index}
 use Rattle.engine.specs.StopLaws.{stops-uncoupled, stop-length}
 use Rattle.engine.specs.StopWalk.{Passing, pass-start, nothing-bare, nothing-uncoupled, covers}
 use Rattle.engine.specs.StopPlaces.{stop-told}
+use Rattle.std.specs.Bool.{then_some}
+use Rattle.engine.specs.declared.walk.Arrival.{Arrival}
+use Rattle.engine.specs.declared.walk.Arrival.TheVariants as arrival
 use Rattle.engine.specs.declared.stream.Shape.{Shape}
 use Rattle.engine.specs.declared.stream.Pattern.{Pattern}
 
@@ -80,7 +82,7 @@ lies p w {k} h a =
 -- ---- stops
 
 -- uncoupled, a search over the stops is one over the elements
-pub arrives-element : (s : Shape) → s.coupling ≡ Uncoupled → (k : ℕ) (found : Bool) (index : List ℕ) → Stands s k found index → Arrives s k found false index
+pub arrives-element : (s : Shape) → s.coupling ≡ None → (k : ℕ) (found : Bool) (index : List ℕ) → Stands s k found index → Arrives s k found false index
 arrives-element s e k found index h =
     let u : elements s ≡ stops s = sym (stops-uncoupled s e) in
     let t : found ≡ ltb k (length (stops s)) = subst (λ l. found ≡ ltb k (length l)) u h.told in
@@ -90,8 +92,14 @@ arrives-element s e k found index h =
       nothing = λ y. sym (nothing-uncoupled s e k (ltb-true k (length (stops s)) (sym t ∙ y)));
     }
 
+-- the same, where the code says so by an option
+pub arrives-some : (s : Shape) (k : ℕ) (found : Bool) (r : Option Arrival) (index : List ℕ) → r ≡ then_some found arrival.Element → Arrives s k found false index
+    → Arrives s k (is_some r) (comes_empty r) index
+arrives-some s k true r index e h = rw e h
+arrives-some s k false r index e h = rw e h
+
 -- and a stop is an element
-pub element-here : (s : Shape) → s.coupling ≡ Uncoupled → (v : List ℕ) (empty : Bool) → Stop s v empty → Element s v
+pub element-here : (s : Shape) → s.coupling ≡ None → (v : List ℕ) (empty : Bool) → Stop s v empty → Element s v
 element-here s e v empty t =
     let u : stops s ≡ elements s = stops-uncoupled s e in
     record { position = t.position; below = subst (λ l. t.position < length l) u t.below; here = t.here ∙ ap (λ l. index_of (get_or l t.position [])) u }
@@ -153,13 +161,6 @@ module _ (s : Shape) (c : ℕ) where
           let l : loops (size_at s) 0 c outer ≡ [] = pass-start (size_at s) c outer p v e ∙ a in
           record { later = []; list = ap (or_one (replicate c 0 ++ outer)) l ∙ ap (λ u. u ∷ []) (sym e); nothing = λ _. sym (ap (bare (size_at s) c) behind ∙ ap is_none l) }
 
--- where there is no stop, there is none further on
-pub no-further : (s : Shape) (k n : ℕ) (found empty : Bool) (index : List ℕ) → found ≡ false → Arrives s k found empty index → k ≤ n → Arrives s n found empty index
-no-further s k n true empty index e h p = never_true (sym e)
-no-further s k n false empty index e h p =
-    let l : length (stops s) ≤ k = ltb-false k (length (stops s)) (sym h.told) in
-    record { told = sym (le-ltb n (length (stops s)) (omega arith)); here = λ e. never_true e; nothing = λ e. never_true e }
-
 -- the stop at which a walk has arrived
 pub stop-below : {s : Shape} {k : ℕ} {empty : Bool} {v : List ℕ} → Arrives s k true empty v → k < length (stops s)
 stop-below {s} {k} h = ltb-true k (length (stops s)) (sym h.told)
@@ -184,11 +185,3 @@ held-told s y v empty t =
     twice : (b : Bool) → b ≡ not (not b)
     twice true = refl
     twice false = refl
-
--- the coupling in a row
-pub uncoupled-in : (n c : ℕ) → n ≡ 0 → coupling_in n c ≡ Uncoupled
-uncoupled-in n c e = ap (λ j. coupling_in j c) e
-
-pub coupled-in : (n c : ℕ) → (n ≡ 0 → ⊥) → coupling_in n c ≡ Coupled c
-coupled-in zero c h = absurd (h refl)
-coupled-in (suc n) c h = refl

@@ -1,9 +1,6 @@
 -- How many lanes a register has.
-use Rattle.std.proofs.Common.{ℕ, ◌*◌, ◌<◌, ◌≤◌, le-mul_of_pos_right, arith}
+use Rattle.std.proofs.Common.{ℕ, ◌*◌, ◌≤◌, le-mul_of_pos_right, arith}
 
 -- lanes that fit a register's 64 bytes are 64 at most
 pub few-lanes : (count width : ℕ) → 1 ≤ width → count * width ≤ 64 → count ≤ 64
 few-lanes count width p h = omega (arith, le-mul_of_pos_right {m = width} count p)
-
-pub many : (count width : ℕ) → 1 ≤ count → 1 ≤ width → 0 < count * width
-many count width h p = omega (arith, le-mul_of_pos_right {m = width} count p)

@@ -1,7 +1,6 @@
 mod Exact
 mod GainSteps
-mod GainRows
-mod RowReads
+mod GainTurns
 mod PlainSteps
 mod AddressSteps
 mod Turns
@@ -38,6 +37,5 @@ pub mod InTurn
 pub mod Looking
 pub mod Carrying
 mod Taking
-mod Blames
 pub mod Clearing
 pub mod Rounds

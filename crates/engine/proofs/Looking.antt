@@ -6,14 +6,13 @@
 --   here-stop, size-told, gone-told   what a register remembers of the stop where it stands
 --   part-added                    the addresses of one part more
 --   part-within, part-on, part-last   a part more, of elements of one row
+use Rattle.std.specs.Prelude.{Option, Some, None}
 use Rattle.std.proofs.Common.{◌≡◌, ℕ, zero, suc, ◌+◌, ◌-◌, ◌<◌, ◌≤◌, min, Bool, true, false, cond, not, ◌||◌, eqb, ltb, List, [], ◌∷◌, ◌++◌, length, get_or, take, drop, set, replicate, ℤ, pos, ◌+ℤ◌, ◌*ℤ◌, sym, refl, ap, ◌∙◌, subst, ap₂, append_assoc, append-nil, add-one, arith, length-drop, length-set, get_or-drop, take-suc, get_or-set_same, take-suc-set, ltb-false, ltb-true, lt-ltb}
 use mathlib.Core.List.{map-append}
 use lib.Seq.{set-get_or}
 use lib.IntN.{+ℤ_assoc, +ℤ_idr, *ℤ-one, *ℤ-zero}
 use Rattle.codec.specs.TestLaws.{never}
 use Rattle.codec.specs.declared.amounts.Bytes.{Bytes}
-use Rattle.codec.specs.declared.header.Coupling.{Coupling}
-use Rattle.codec.specs.declared.header.Coupling.TheVariants.{Uncoupled, Coupled}
 use Rattle.engine.specs.Configure.{Covers}
 use Rattle.engine.specs.Loops.{size_at}
 use Rattle.engine.specs.Chunks.{stops_in, stops, held_in, nothing_at, groups, stream_groups, chunk, height, differ}
@@ -36,6 +35,7 @@ use Rattle.engine.specs.Runnings.{place_of, view_of, Remembers, Near, gone_by, b
 use Rattle.engine.proofs.Moves.{moved-to}
 use Rattle.engine.proofs.PartSteps.{parts-append, part-alone}
 use Rattle.engine.proofs.RowSteps.{row-onward, in-row-along, place-fits}
+use Rattle.engine.specs.declared.part.Part.{Part}
 use Rattle.engine.specs.declared.stream.Shape.{Shape}
 use Rattle.engine.specs.declared.stream.Pattern.{Pattern}
 use Rattle.engine.specs.declared.running.Running.{Running}
@@ -49,11 +49,11 @@ record Left (s : Shape) (n : ℕ) (stopped : Bool) : Type 0 where
   more : stopped ≡ false → (left_in_group (stream_groups s) n ≡ suc (left_in_group (stream_groups s) (suc n))) × (suc n < length (stops s))
 
 -- of an uncoupled stream all that are left
-left-all : (s : Shape) → s.coupling ≡ Uncoupled → (n : ℕ) → left_in_group (stream_groups s) n ≡ length (stops s) - n
+left-all : (s : Shape) → s.coupling ≡ None → (n : ℕ) → left_in_group (stream_groups s) n ≡ length (stops s) - n
 unfolding stops_in
 left-all s f n = subst (λ k. left_in_group (groups (size_at s) s.dims k) n ≡ length (stops_in (size_at s) s.dims k) - n) (sym f) (group-uncoupled (size_at s) s.dims n)
 
-left-free : (s : Shape) → s.coupling ≡ Uncoupled → (n : ℕ) (found : Bool) → n < length (stops s) → found ≡ ltb (suc n) (length (stops s)) → Left s n (not found)
+left-free : (s : Shape) → s.coupling ≡ None → (n : ℕ) (found : Bool) → n < length (stops s) → found ≡ ltb (suc n) (length (stops s)) → Left s n (not found)
 left-free s f n true q e =
     let h : suc n < length (stops s) = ltb-true _ _ (sym e) in
     record {
@@ -68,7 +68,7 @@ left-free s f n false q e =
     }
 
 -- where a group ends, goes on, or is the last, in a stream's words
-module _ (s : Shape) (c : ℕ) (f : s.coupling ≡ Coupled c) (w : c ≤ s.dims) (n : ℕ) where
+module _ (s : Shape) (c : ℕ) (f : s.coupling ≡ Some c) (w : c ≤ s.dims) (n : ℕ) where
   at_last : suc n ≡ length (stops s) → left_in_group (stream_groups s) n ≡ 1
   at_last =
       subst (λ k. suc n ≡ length (stops_in (size_at s) s.dims k) → left_in_group (groups (size_at s) s.dims k) n ≡ 1) (sym f)
@@ -86,7 +86,7 @@ module _ (s : Shape) (c : ℕ) (f : s.coupling ≡ Coupled c) (w : c ≤ s.dims)
       → left_in_group (groups (size_at s) s.dims k) n ≡ suc (left_in_group (groups (size_at s) s.dims k) (suc n))) (sym f)
       (group-goes-on (size_at s) s.dims c w n)
 
-left-coupled : (s : Shape) (c : ℕ) → s.coupling ≡ Coupled c → c ≤ s.dims → (n : ℕ) (found : Bool) (h : ℕ) → n < length (stops s)
+left-coupled : (s : Shape) (c : ℕ) → s.coupling ≡ Some c → c ≤ s.dims → (n : ℕ) (found : Bool) (h : ℕ) → n < length (stops s)
     → found ≡ ltb (suc n) (length (stops s)) → h ≡ height s (suc n) → Left s n (not found || ltb c h)
 left-coupled s c g w n false h q e f =
     let m : suc n ≡ length (stops s) = omega (arith, ltb-false (suc n) (length (stops s)) (sym e)) in
@@ -103,16 +103,16 @@ left-coupled s c g w n true h q e f =
       more = λ t. (within s c g w n m (omega (arith, ltb-false c h t, d)), m);
     }
 
-left_at : (s : Shape) (k : Coupling) → s.coupling ≡ k → Covers s.dims k → (n : ℕ) (found : Bool) (h : ℕ) → n < length (stops s)
+left_at : (s : Shape) (k : Option ℕ) → s.coupling ≡ k → Covers s.dims k → (n : ℕ) (found : Bool) (h : ℕ) → n < length (stops s)
     → found ≡ ltb (suc n) (length (stops s)) → h ≡ height s (suc n) → Left s n (ends_at k found h)
-left_at s Uncoupled g w n found h q e f = left-free s g n found q e
-left_at s (Coupled c) g w n found h q e f = left-coupled s c g w n found h q e f
+left_at s None g w n found h q e f = left-free s g n found q e
+left_at s (Some c) g w n found h q e f = left-coupled s c g w n found h q e f
 
 -- where a chunk goes on, there is a stop
-pub goes-found : (k : Coupling) (found : Bool) (h : ℕ) → ends_at k found h ≡ false → found ≡ true
+pub goes-found : (k : Option ℕ) (found : Bool) (h : ℕ) → ends_at k found h ≡ false → found ≡ true
 goes-found k true h e = refl
-goes-found Uncoupled false h e = sym e
-goes-found (Coupled c) false h e = sym e
+goes-found None false h e = sym e
+goes-found (Some c) false h e = sym e
 
 -- after k elements, where the chunk goes on: their addresses are xs, and the walk stands behind them
 pub record Going (r : Register) (most k : ℕ) (place : Place) (h : ℕ) (xs : List ℤ) : Type 0 where
@@ -311,7 +311,7 @@ pub row-long : (p : Pattern) (row : List ℕ) (q : Running) → Ready (view_of p
 row-long p row q y = sym (length-set row 0 q.index) ∙ ap length y.index ∙ index-length (get_or (stops p.shape) q.moved [])
 
 -- the addresses of one part more
-pub part-added : (rows : List (List ℤ)) (m : ℕ) (part : List ℤ) → m < length rows → joined_in (take (m + 1) (set rows m part)) ≡ joined_in (take m rows) ++ addresses_in part
+pub part-added : (rows : List Part) (m : ℕ) (part : Part) → m < length rows → joined_in (take (m + 1) (set rows m part)) ≡ joined_in (take m rows) ++ addresses_in part
 part-added rows m part h =
     ap joined_in (rw (add-one m) (take-suc-set rows m part h)) ∙ parts-append (take m rows) (part ∷ []) ∙ ap (λ l. joined_in (take m rows) ++ l) (part-alone part)
 

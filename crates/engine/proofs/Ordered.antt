@@ -1,5 +1,5 @@
 -- A calculation's checks on its operands, in document 01's order, and what it does once none applies.
-use Rattle.std.proofs.Common.{◌≡◌, ℕ, ◌*◌, ◌/◌, ◌≤◌, Bool, true, false, cond, not, ◌&&◌, ◌||◌, eqb, ltb, List, [], ◌∷◌, ◌++◌, length, take, sym, refl, ap, ◌∙◌, subst, ap₂, le_refl, le-div_iff_mul-le, arith, eqb-true}
+use Rattle.std.proofs.Common.{◌≡◌, ℕ, ◌*◌, ◌/◌, ◌≤◌, Bool, true, false, cond, not, ◌&&◌, ◌||◌, eqb, ltb, List, [], ◌∷◌, ◌++◌, length, take, sym, refl, ap, ◌∙◌, subst, ap₂, le_refl, le-div_iff_mul-le, arith, eqb-true, Ok, Err}
 use borrow.Author.Tests.{not-false}
 use Rattle.codec.specs.TestLaws.{or-false, and-false}
 use Rattle.codec.specs.declared.operation.Task.{Task}
@@ -14,7 +14,7 @@ use Rattle.engine.specs.StopLaws.{among-length}
 use Rattle.engine.specs.ChunkLaws.{chunk-lanes}
 use Rattle.engine.specs.Lanes.{outcome, outcome_count, wants_lanes}
 use Rattle.engine.specs.Memory.{holding}
-use Rattle.engine.specs.Checks.{Check, ◌if◌, first_of}
+use Rattle.engine.specs.Checks.{Check, ◌if◌, first_of, Why}
 use Rattle.engine.specs.CheckLaws.{first-behind, first_stops, first_goes}
 use Rattle.engine.specs.Calculate.{given, source_checks, destination_checks, inside_check}
 use Rattle.engine.specs.EffectLaws.{open-store, given-fits, outcome-length}
@@ -26,8 +26,6 @@ use Rattle.engine.specs.Stretches.{stored_at}
 use Rattle.engine.proofs.LaneCounts.{few-lanes}
 use Rattle.engine.specs.Operands.{Operand, Operates, outside_at, results_on, why_on, Calculated, lanes_out, CarriedOut}
 use Rattle.engine.specs.OperandLaws.{source-count, source-outside, source-lanes, source-after, target-count, target-outside, target-after, target-memory}
-use Rattle.engine.specs.declared.check.Why.{Why}
-use Rattle.engine.specs.declared.check.Why.TheVariants.{Nothing, Because}
 use Rattle.engine.specs.declared.register.Register.{Register}
 
 abbrev pub states : Register → Register → Register → List Check
@@ -51,11 +49,11 @@ beyond role len r o = outside_at role len r.width o.live o.addresses
 
 module _ (t : Task) (vl : ℕ) (memory : List ℕ) (a b d : Register) where
   -- the states refuse
-  pub states-stop : (w : Why) {x : Refusal} → w ≡ first_of (states a b d) → w ≡ Because x → why_on t vl memory a b d ≡ w
+  pub states-stop : (w : Why) {x : Refusal} → w ≡ first_of (states a b d) → w ≡ Err x → why_on t vl memory a b d ≡ w
   states-stop w e f = first_stops (states a b d) _ w (sym e) f
 
   -- they do not: the others decide
-  pub states-pass : first_of (states a b d) ≡ Nothing
+  pub states-pass : first_of (states a b d) ≡ Ok tt
       → why_on t vl memory a b d
       ≡ first_of (after (widths a b d)
       (not (eqb (length (given vl memory a)) (length (given vl memory b))) || open_store d && ltb (length (next_chunk vl d)) (outcome_count t (length (given vl memory a))))
@@ -64,14 +62,14 @@ module _ (t : Task) (vl : ℕ) (memory : List ℕ) (a b d : Register) where
   states-pass e = first_goes (states a b d) _ e
 
   -- the destination is no open load
-  no-load : first_of (states a b d) ≡ Nothing → open_load d ≡ false
+  no-load : first_of (states a b d) ≡ Ok tt → open_load d ≡ false
   no-load e =
       let s = (next _ _ _ (next _ _ _ (next _ _ _ e).1).1).1 in
       let t = (next _ _ _ (next _ _ _ (next _ _ _ s).1).1).1 in
       (next _ _ _ (next _ _ _ (next _ _ _ t).1).1).0
 
   -- 12 refuses
-  pub widths-stop : first_of (states a b d) ≡ Nothing → widths a b d ≡ true → why_on t vl memory a b d ≡ Because Widths
+  pub widths-stop : first_of (states a b d) ≡ Ok tt → widths a b d ≡ true → why_on t vl memory a b d ≡ Err Widths
   unfolding first_of
   widths-stop e f = states-pass e ∙ rw f
 
@@ -85,7 +83,7 @@ same_store d e = go (is_open d.state) refl
 module _ (t : Task) (vl : ℕ) (least : 8 ≤ vl) (memory : List ℕ) (a b d : Register) (ga : Good vl a) (gb : Good vl b) (x y z : Operand)
     (hx : Operates a (vl / a.width) a.valid x) (hy : Operates b (vl / b.width) b.valid y)
     (hz : Operates d (outcome_count t x.count) (outcome_count t x.count) z)
-    (e : first_of (states a b d) ≡ Nothing) (w : widths a b d ≡ false) where
+    (e : first_of (states a b d) ≡ Ok tt) (w : widths a b d ≡ false) where
   abbrev pub n : ℕ
   n = outcome_count t x.count
 
@@ -142,7 +140,7 @@ module _ (t : Task) (vl : ℕ) (least : 8 ≤ vl) (memory : List ℕ) (a b d : R
     (hx : Operates a (vl / a.width) a.valid x) (hy : Operates b (vl / b.width) b.valid y)
     (hz : Operates d (outcome_count t x.count) (outcome_count t x.count) z)
     (widths : is_open d.state ≡ true → d.width ≡ a.width) (same : x.count ≡ y.count)
-    (full : is_open d.state ≡ true → z.count ≡ outcome_count t x.count) (nothing : why_on t vl memory a b d ≡ Nothing) where
+    (full : is_open d.state ≡ true → z.count ≡ outcome_count t x.count) (nothing : why_on t vl memory a b d ≡ Ok tt) where
   enough : is_open d.state ≡ true → outcome_count t x.count ≤ vl / d.width
   enough o =
       subst (λ j. outcome_count t x.count ≤ vl / j) (sym (widths o))
@@ -189,11 +187,11 @@ target-few n d o h = go (is_open d.state) refl
 
 -- the ways that a check on the operands refuses
 module _ (w : Why) (l s : Bool) (x y z : Check) (f : w ≡ first_of (after false l s x y z)) where
-  pub counts-stop : l ≡ true → w ≡ Because LaneCounts
+  pub counts-stop : l ≡ true → w ≡ Err LaneCounts
   unfolding first_of
   counts-stop e = f ∙ rw e
 
-  pub lanes-stop : l ≡ false → s ≡ true → w ≡ Because NoLanes
+  pub lanes-stop : l ≡ false → s ≡ true → w ≡ Err NoLanes
   unfolding first_of
   lanes-stop e g = f ∙ rw (e, g)
 
@@ -202,12 +200,12 @@ module _ (w : Why) (l s : Bool) (x y z : Check) (f : w ≡ first_of (after false
   unfolding first_of
   counts-pass e g = f ∙ rw (e, g)
 
-  pub first-outside : {v : Refusal} → l ≡ false → s ≡ false → first_of (x ∷ []) ≡ Because v → w ≡ Because v
+  pub first-outside : {v : Refusal} → l ≡ false → s ≡ false → first_of (x ∷ []) ≡ Err v → w ≡ Err v
   first-outside e i g = counts-pass e i ∙ first_stops (x ∷ []) (y ∷ z ∷ []) _ g refl
 
-  pub second-outside : {v : Refusal} → l ≡ false → s ≡ false → first_of (x ∷ []) ≡ Nothing → first_of (y ∷ []) ≡ Because v → w ≡ Because v
+  pub second-outside : {v : Refusal} → l ≡ false → s ≡ false → first_of (x ∷ []) ≡ Ok tt → first_of (y ∷ []) ≡ Err v → w ≡ Err v
   second-outside e i g h = counts-pass e i ∙ first_goes (x ∷ []) (y ∷ z ∷ []) g ∙ first_stops (y ∷ []) (z ∷ []) _ h refl
 
   -- the last decides where the first two do not refuse
-  pub third-outside : l ≡ false → s ≡ false → first_of (x ∷ []) ≡ Nothing → first_of (y ∷ []) ≡ Nothing → w ≡ first_of (z ∷ [])
+  pub third-outside : l ≡ false → s ≡ false → first_of (x ∷ []) ≡ Ok tt → first_of (y ∷ []) ≡ Ok tt → w ≡ first_of (z ∷ [])
   third-outside e i g h = counts-pass e i ∙ first_goes (x ∷ []) (y ∷ z ∷ []) g ∙ first_goes (y ∷ []) (z ∷ []) h

@@ -2,12 +2,11 @@
 --
 --   joined-append, within-append, stored-append, lanes-append, packed-append   in two pieces
 --   length-stored                 what is written leaves memory as long as it was
---   part-there, parts-there       a part, and as many as there are
 --   parts_more, length_part       the addresses of one part more; how many a part has
 --   parts-room, lanes-room        a part ends where all parts do, or before
 --   part-inside, part-outside     all parts lie inside exactly if each does
 --   part-lane, check-inside, check-outside   the first lane outside; the address check
-use Rattle.std.proofs.Common.{◌≡◌, ℕ, zero, suc, ◌+◌, ◌*◌, ◌<◌, ◌≤◌, Bool, true, false, ◌&&◌, List, [], ◌∷◌, ◌++◌, map, length, get_or, take, ℤ, pos, sym, refl, ap, ◌∙◌, append_assoc, append-nil, mul-le-mul_right, suc-mul, add-mul, add-one, arith, length-append, length-take-le, take_all, take-suc}
+use Rattle.std.proofs.Common.{◌≡◌, ℕ, zero, suc, ◌+◌, ◌*◌, ◌<◌, ◌≤◌, Bool, true, false, ◌&&◌, List, [], ◌∷◌, ◌++◌, map, length, get_or, take, ℤ, pos, sym, refl, ap, ◌∙◌, append_assoc, append-nil, mul-le-mul_right, suc-mul, add-mul, add-one, arith, length-append, length-take-le, take_all, take-suc, Some, None}
 use mathlib.Core.List.{map-append}
 use lib.ListN.{length-map}
 use lib.Seq.{sets, length-sets}
@@ -16,8 +15,8 @@ use Rattle.engine.specs.Loops.{natural}
 use Rattle.engine.specs.Addresses.{inside}
 use Rattle.engine.specs.Memory.{value_at, little_endian, lanes_from, joined, packed}
 use Rattle.engine.specs.PackedLaws.{length-lanes, length-joined, zeros, packed-front}
-use Rattle.engine.specs.Stretches.{progression, addresses_in, joined_in, Part, all_within, lane_without, checked_at, fetched_at, stored_at}
-use Rattle.engine.specs.declared.transfer.Addresses.TheVariants.{Inside, Outside}
+use Rattle.engine.specs.Stretches.{addresses_in, joined_in, all_within, lane_without, checked_at, fetched_at, stored_at}
+use Rattle.engine.specs.declared.part.Part.{Part}
 use Rattle.engine.proofs.ByteSteps.{sets-append}
 use Rattle.engine.proofs.LaneSteps.{lane_room}
 use Rattle.engine.proofs.StretchSteps.{length-progression, map_at, lane-behind, lane-before}
@@ -84,63 +83,47 @@ packed-append w xs ys h =
 -- ---- the addresses of parts
 
 -- parts in two pieces
-pub parts-append : (xs ys : List (List ℤ)) → joined_in (xs ++ ys) ≡ joined_in xs ++ joined_in ys
+pub parts-append : (xs ys : List Part) → joined_in (xs ++ ys) ≡ joined_in xs ++ joined_in ys
 unfolding joined_in
 parts-append [] ys = refl
 parts-append (part ∷ xs) ys = ap (λ l. addresses_in part ++ l) (parts-append xs ys) ∙ sym (append_assoc (addresses_in part) (joined_in xs) (joined_in ys))
 
 -- one part
-pub part-alone : (part : List ℤ) → joined_in (part ∷ []) ≡ addresses_in part
+pub part-alone : (part : Part) → joined_in (part ∷ []) ≡ addresses_in part
 unfolding joined_in
 part-alone part = append-nil (addresses_in part)
 
--- a part of three numbers is there
-pub part-there : (parts : List (List ℤ)) (k : ℕ) → length (get_or parts k []) ≡ 3 → k < length parts
-part-there [] k e = absurd (omega arith)
-part-there (part ∷ parts) zero e = omega arith
-part-there (part ∷ parts) (suc k) e = omega (arith, part-there parts k e)
-
--- .. and so are m of them
-pub parts-there : (parts : List (List ℤ)) (m : ℕ) → ((k : ℕ) → k < m → Part (get_or parts k [])) → m ≤ length parts
-parts-there parts zero h = omega arith
-parts-there parts (suc m) h = omega (arith, part-there parts m (h m (omega arith)).three)
-
 -- one part more
-pub parts_more : (parts : List (List ℤ)) (k : ℕ) → k < length parts → joined_in (take (k + 1) parts) ≡ joined_in (take k parts) ++ addresses_in (get_or parts k [])
-parts_more parts k h =
-    rw (add-one k, take-suc parts k [] h)
-    (parts-append (take k parts) (get_or parts k [] ∷ []) ∙ ap (λ l. joined_in (take k parts) ++ l) (part-alone (get_or parts k [])))
+pub parts_more : (parts : List Part) (k : ℕ) (part : Part) → part ≡ get_or parts k part → k < length parts → joined_in (take (k + 1) parts) ≡ joined_in (take k parts) ++ addresses_in part
+parts_more parts k part e h =
+    rw (add-one k, take-suc parts k part h)
+    (parts-append (take k parts) (get_or parts k part ∷ [])
+    ∙ ap (λ l. joined_in (take k parts) ++ l) (part-alone (get_or parts k part) ∙ ap (λ p. addresses_in p) (sym e)))
 
 -- a part has as many addresses as it says
-pub length_part : (part : List ℤ) → length (addresses_in part) ≡ natural (get_or part 2 (pos 0))
-length_part part = length-progression (get_or part 0 (pos 0)) (get_or part 1 (pos 0)) (natural (get_or part 2 (pos 0)))
+pub length_part : (part : Part) → length (addresses_in part) ≡ part.count
+length_part part = length-progression part.start.0 part.step.0 part.count
 
--- a row of the three numbers of a part
-pub part-is : (part : List ℤ) {a step : ℤ} {n : ℕ} → a ≡ get_or part 0 (pos 0) → step ≡ get_or part 1 (pos 0) → n ≡ natural (get_or part 2 (pos 0)) → progression a step n ≡ addresses_in part
-part-is part {a} {step} {n} p q r =
-    ap (λ x. progression x step n) p ∙ ap (λ x. progression (get_or part 0 (pos 0)) x n) q ∙ ap (progression (get_or part 0 (pos 0)) (get_or part 1 (pos 0))) r
-
--- a part ends where the first m parts do, or before
-pub parts-room : (parts : List (List ℤ)) (k m : ℕ) → k < m → m ≤ length parts
-    → length (joined_in (take k parts)) + length (addresses_in (get_or parts k [])) ≤ length (joined_in (take m parts))
+-- a part ends where all parts do, or before
+pub parts-room : (parts : List Part) (k : ℕ) (part : Part) → part ≡ get_or parts k part → k < length parts
+    → length (joined_in (take k parts)) + length (addresses_in part) ≤ length (joined_in parts)
 unfolding joined_in
-parts-room [] k m h p = absurd (omega arith)
-parts-room (part ∷ parts) k zero h p = absurd (omega arith)
-parts-room (part ∷ parts) zero (suc m) h p = omega (arith, length-append (addresses_in part) (joined_in (take m parts)))
-parts-room (part ∷ parts) (suc k) (suc m) h p =
+parts-room [] k part e h = absurd (omega arith)
+parts-room (p ∷ parts) zero part e h = omega (arith, length-append (addresses_in p) (joined_in parts), ap (λ p. length (addresses_in p)) e)
+parts-room (p ∷ parts) (suc k) part e h =
     omega (
       arith,
-      length-append (addresses_in part) (joined_in (take k parts)),
-      length-append (addresses_in part) (joined_in (take m parts)),
-      parts-room parts k m (omega arith) (omega arith),
+      length-append (addresses_in p) (joined_in (take k parts)),
+      length-append (addresses_in p) (joined_in parts),
+      parts-room parts k part e (omega arith),
     )
 
 -- .. and so do its lanes
-pub lanes-room : (parts : List (List ℤ)) (k m w : ℕ) {at n : ℕ} → k < m → m ≤ length parts → at ≡ length (joined_in (take k parts))
-    → n ≡ natural (get_or (get_or parts k []) 2 (pos 0)) → length (joined_in (take m parts)) * w ≤ 64 → at * w + n * w ≤ 64
-lanes-room parts k m w {at} {n} h p e f q =
-    let r : at + n ≤ length (joined_in (take m parts)) = omega (arith, parts-room parts k m h p, length_part (get_or parts k [])) in
-    omega (arith, mul-le-mul_right w r, add-mul at n w)
+pub lanes-room : (parts : List Part) (k w : ℕ) (part : Part) → part ≡ get_or parts k part → {at : ℕ} → k < length parts → at ≡ length (joined_in (take k parts))
+    → length (joined_in parts) * w ≤ 64 → at * w + part.count * w ≤ 64
+lanes-room parts k w part e {at} h f q =
+    let r : at + part.count ≤ length (joined_in parts) = omega (arith, parts-room parts k part e h, length_part part) in
+    omega (arith, mul-le-mul_right w r, add-mul at part.count w)
 
 -- ---- whether parts lie inside
 
@@ -153,57 +136,58 @@ unfolding joined_in
 parts-none-long = refl
 
 -- all parts inside: each is
-pub part-inside : (len w : ℕ) (parts : List (List ℤ)) (k m : ℕ) → k < m → m ≤ length parts → all_within len w (joined_in (take m parts)) ≡ true
-    → all_within len w (addresses_in (get_or parts k [])) ≡ true
+pub part-inside : (len w : ℕ) (parts : List Part) (k : ℕ) (part : Part) → part ≡ get_or parts k part → k < length parts → all_within len w (joined_in parts) ≡ true
+    → all_within len w (addresses_in part) ≡ true
 unfolding joined_in
-part-inside len w [] k m h p e = absurd (omega arith)
-part-inside len w (part ∷ parts) k zero h p e = absurd (omega arith)
-part-inside len w (part ∷ parts) zero (suc m) h p e =
-    (both (all_within len w (addresses_in part)) (all_within len w (joined_in (take m parts))) (sym (within-append len w (addresses_in part) (joined_in (take m parts))) ∙ e)).0
-part-inside len w (part ∷ parts) (suc k) (suc m) h p e =
-    part-inside len w parts k m (omega arith) (omega arith)
-    (both (all_within len w (addresses_in part)) (all_within len w (joined_in (take m parts))) (sym (within-append len w (addresses_in part) (joined_in (take m parts))) ∙ e)).1
+part-inside len w [] k part g h e = absurd (omega arith)
+part-inside len w (p ∷ parts) zero part g h e =
+    ap (λ p. all_within len w (addresses_in p)) g
+    ∙ (both (all_within len w (addresses_in p)) (all_within len w (joined_in parts)) (sym (within-append len w (addresses_in p) (joined_in parts)) ∙ e)).0
+part-inside len w (p ∷ parts) (suc k) part g h e =
+    part-inside len w parts k part g (omega arith)
+    (both (all_within len w (addresses_in p)) (all_within len w (joined_in parts)) (sym (within-append len w (addresses_in p) (joined_in parts)) ∙ e)).1
 
 -- one part outside: not all are inside
-pub part-outside : (len w : ℕ) (parts : List (List ℤ)) (k m : ℕ) → k < m → m ≤ length parts → all_within len w (addresses_in (get_or parts k [])) ≡ false
-    → all_within len w (joined_in (take m parts)) ≡ false
+pub part-outside : (len w : ℕ) (parts : List Part) (k : ℕ) (part : Part) → part ≡ get_or parts k part → k < length parts → all_within len w (addresses_in part) ≡ false
+    → all_within len w (joined_in parts) ≡ false
 unfolding joined_in
-part-outside len w [] k m h p e = absurd (omega arith)
-part-outside len w (part ∷ parts) k zero h p e = absurd (omega arith)
-part-outside len w (part ∷ parts) zero (suc m) h p e =
-    within-append len w (addresses_in part) (joined_in (take m parts)) ∙ and_left (all_within len w (addresses_in part)) (all_within len w (joined_in (take m parts))) e
-part-outside len w (part ∷ parts) (suc k) (suc m) h p e =
-    within-append len w (addresses_in part) (joined_in (take m parts))
-    ∙ and_right (all_within len w (addresses_in part)) (all_within len w (joined_in (take m parts))) (part-outside len w parts k m (omega arith) (omega arith) e)
+part-outside len w [] k part g h e = absurd (omega arith)
+part-outside len w (p ∷ parts) zero part g h e =
+    within-append len w (addresses_in p) (joined_in parts)
+    ∙ and_left (all_within len w (addresses_in p)) (all_within len w (joined_in parts)) (ap (λ p. all_within len w (addresses_in p)) (sym g) ∙ e)
+part-outside len w (p ∷ parts) (suc k) part g h e =
+    within-append len w (addresses_in p) (joined_in parts)
+    ∙ and_right (all_within len w (addresses_in p)) (all_within len w (joined_in parts)) (part-outside len w parts k part g (omega arith) e)
 
 -- one part more inside
-pub part-within : (len w : ℕ) (parts : List (List ℤ)) (k : ℕ) → k < length parts → all_within len w (joined_in (take k parts)) ≡ true
-    → all_within len w (addresses_in (get_or parts k [])) ≡ true → all_within len w (joined_in (take (k + 1) parts)) ≡ true
-part-within len w parts k h e f =
+pub part-within : (len w : ℕ) (parts : List Part) (k : ℕ) (part : Part) → part ≡ get_or parts k part → k < length parts → all_within len w (joined_in (take k parts)) ≡ true
+    → all_within len w (addresses_in part) ≡ true → all_within len w (joined_in (take (k + 1) parts)) ≡ true
+part-within len w parts k part g h e f =
     let l = joined_in (take k parts) in
-    let m = addresses_in (get_or parts k []) in
-    ap (all_within len w) (parts_more parts k h) ∙ within-append len w l m ∙ and_both (all_within len w l) (all_within len w m) e f
+    let m = addresses_in part in
+    ap (all_within len w) (parts_more parts k part g h) ∙ within-append len w l m ∙ and_both (all_within len w l) (all_within len w m) e f
 
 -- the first lane outside is in the first part that does not lie inside
-pub part-lane : (len w : ℕ) (parts : List (List ℤ)) (k m : ℕ) → k < m → m ≤ length parts → all_within len w (joined_in (take k parts)) ≡ true
-    → all_within len w (addresses_in (get_or parts k [])) ≡ false
-    → lane_without len w (joined_in (take m parts)) ≡ length (joined_in (take k parts)) + lane_without len w (addresses_in (get_or parts k []))
+pub part-lane : (len w : ℕ) (parts : List Part) (k : ℕ) (part : Part) → part ≡ get_or parts k part → k < length parts → all_within len w (joined_in (take k parts)) ≡ true
+    → all_within len w (addresses_in part) ≡ false
+    → lane_without len w (joined_in parts) ≡ length (joined_in (take k parts)) + lane_without len w (addresses_in part)
 unfolding joined_in
-part-lane len w [] k m h p e f = absurd (omega arith)
-part-lane len w (part ∷ parts) k zero h p e f = absurd (omega arith)
-part-lane len w (part ∷ parts) zero (suc m) h p e f = lane-before len w (addresses_in part) (joined_in (take m parts)) f ∙ omega arith
-part-lane len w (part ∷ parts) (suc k) (suc m) h p e f =
-    let l = addresses_in part in
-    let g = both (all_within len w l) (all_within len w (joined_in (take k parts))) (sym (within-append len w l (joined_in (take k parts))) ∙ e) in
+part-lane len w [] k part g h e f = absurd (omega arith)
+part-lane len w (p ∷ parts) zero part g h e f =
+    lane-before len w (addresses_in p) (joined_in parts) (ap (λ p. all_within len w (addresses_in p)) (sym g) ∙ f)
+    ∙ omega (arith, ap (λ p. lane_without len w (addresses_in p)) g)
+part-lane len w (p ∷ parts) (suc k) part g h e f =
+    let l = addresses_in p in
+    let i = both (all_within len w l) (all_within len w (joined_in (take k parts))) (sym (within-append len w l (joined_in (take k parts))) ∙ e) in
     let n : length (l ++ joined_in (take k parts)) ≡ length l + length (joined_in (take k parts)) = length-append l (joined_in (take k parts)) in
-    lane-behind len w l (joined_in (take m parts)) g.0
-    ∙ omega (arith, n, part-lane len w parts k m (omega arith) (omega arith) g.1 f)
+    lane-behind len w l (joined_in parts) i.0
+    ∙ omega (arith, n, part-lane len w parts k part g (omega arith) i.1 f)
 
 -- the address check by these
-pub check-inside : (len w : ℕ) (l : List ℤ) → all_within len w l ≡ true → Inside ≡ checked_at len w l
+pub check-inside : (len w : ℕ) (l : List ℤ) → all_within len w l ≡ true → None ≡ checked_at len w l
 check-inside len w l e = rw e
 
-pub check-outside : (len w : ℕ) (l : List ℤ) (n : ℕ) → all_within len w l ≡ false → lane_without len w l ≡ n → Outside n ≡ checked_at len w l
+pub check-outside : (len w : ℕ) (l : List ℤ) (n : ℕ) → all_within len w l ≡ false → lane_without len w l ≡ n → Some n ≡ checked_at len w l
 check-outside len w l n e f = rw (e, f)
 
 -- ---- lanes of a part
@@ -243,47 +227,41 @@ pub no-lane : (w : ℕ) (lanes : List ℕ) (i : ℕ) → sets lanes i (joined w 
 unfolding joined
 no-lane w lanes i = refl
 
-pub part-none-read : (memory : List ℕ) (w : ℕ) (a step : ℤ) (n : ℕ) (lanes : List ℕ) (i : ℕ) → n ≡ 0 → sets lanes i (joined w (fetched_at memory w (progression a step n))) ≡ lanes
-unfolding progression joined
-part-none-read memory w a step n lanes i e = rw e
-
 -- ---- one part more, read or written
 
--- the lanes of one part more, of addresses l, behind those of k parts
-module _ (memory : List ℕ) (w : ℕ) (parts : List (List ℤ)) (k : ℕ) (h : k < length parts) (l : List ℤ) (e : l ≡ addresses_in (get_or parts k [])) {at n : ℕ}
-    (p : at ≡ length (joined_in (take k parts))) (q : n ≡ length l) where
-  pub parts-count : at + n ≡ length (joined_in (take (k + 1) parts))
+-- the lanes of one part more, behind those of k parts
+module _ (memory : List ℕ) (w : ℕ) (parts : List Part) (k : ℕ) (part : Part) (e : part ≡ get_or parts k part) (h : k < length parts) {at : ℕ} (p : at ≡ length (joined_in (take k parts))) where
+  pub parts-count : at + part.count ≡ length (joined_in (take (k + 1) parts))
   parts-count =
-      let m = ap length e in
-      sym (ap length (parts_more parts k h) ∙ length-append (joined_in (take k parts)) (addresses_in (get_or parts k [])) ∙ omega arith)
+      sym (ap length (parts_more parts k part e h) ∙ length-append (joined_in (take k parts)) (addresses_in part) ∙ omega (arith, length_part part))
 
-  pub parts-read : {lanes after : List ℕ} → at * w + n * w ≤ 64 → lanes ≡ packed w (fetched_at memory w (joined_in (take k parts)))
-      → after ≡ sets lanes (at * w) (joined w (fetched_at memory w l)) → after ≡ packed w (fetched_at memory w (joined_in (take (k + 1) parts)))
+  pub parts-read : {lanes after : List ℕ} → at * w + part.count * w ≤ 64 → lanes ≡ packed w (fetched_at memory w (joined_in (take k parts)))
+      → after ≡ sets lanes (at * w) (joined w (fetched_at memory w (addresses_in part))) → after ≡ packed w (fetched_at memory w (joined_in (take (k + 1) parts)))
   parts-read {lanes} {after} room r s =
       let f : ℤ → ℕ = λ a. value_at memory (natural a) w in
       let xs = joined_in (take k parts) in
-      let row = addresses_in (get_or parts k []) in
+      let row = addresses_in part in
       let x : length (map f xs) ≡ at = length-map xs f ∙ sym p in
-      let y : length (map f row) ≡ n = length-map row f ∙ sym (ap length e) ∙ sym q in
+      let y : length (map f row) ≡ part.count = length-map row f ∙ length_part part in
       let z : length (map f xs) * w + length (map f row) * w ≤ 64 = rw (x, y) room in
       s
-      ∙ ap (λ m. sets m (at * w) (joined w (map f l))) r
-      ∙ ap (λ m. sets (packed w (map f xs)) (at * w) (joined w (map f m))) e
+      ∙ ap (λ m. sets m (at * w) (joined w (map f row))) r
       ∙ ap (λ i. sets (packed w (map f xs)) (i * w) (joined w (map f row))) (sym x)
-      ∙ sym (ap (λ m. packed w (map f m)) (parts_more parts k h) ∙ ap (packed w) (map-append f xs row) ∙ packed-append w (map f xs) (map f row) z)
+      ∙ sym (ap (λ m. packed w (map f m)) (parts_more parts k part e h) ∙ ap (packed w) (map-append f xs row) ∙ packed-append w (map f xs) (map f row) z)
 
   pub parts-written : (bytes : List ℕ) {before after : List ℕ} → before ≡ stored_at memory w (joined_in (take k parts)) (lanes_from bytes w 0 at)
-      → after ≡ stored_at before w l (lanes_from bytes w (at * w) n) → after ≡ stored_at memory w (joined_in (take (k + 1) parts)) (lanes_from bytes w 0 (at + n))
+      → after ≡ stored_at before w (addresses_in part) (lanes_from bytes w (at * w) part.count)
+      → after ≡ stored_at memory w (joined_in (take (k + 1) parts)) (lanes_from bytes w 0 (at + part.count))
   parts-written bytes {before} {after} r s =
       let xs = joined_in (take k parts) in
-      let row = addresses_in (get_or parts k []) in
+      let row = addresses_in part in
+      let n : ℕ = part.count in
       let i : at * w ≡ 0 + at * w = omega arith in
       s
-      ∙ ap (λ m. stored_at m w l (lanes_from bytes w (at * w) n)) r
-      ∙ ap (λ m. stored_at (stored_at memory w xs (lanes_from bytes w 0 at)) w m (lanes_from bytes w (at * w) n)) e
+      ∙ ap (λ m. stored_at m w row (lanes_from bytes w (at * w) n)) r
       ∙ ap (λ j. stored_at (stored_at memory w xs (lanes_from bytes w 0 at)) w row (lanes_from bytes w j n)) i
       ∙ sym
-      (ap (λ m. stored_at memory w m (lanes_from bytes w 0 (at + n))) (parts_more parts k h)
+      (ap (λ m. stored_at memory w m (lanes_from bytes w 0 (at + n))) (parts_more parts k part e h)
       ∙ ap (stored_at memory w (xs ++ row)) (lanes-append bytes w 0 at n)
       ∙ stored-append memory w xs row (lanes_from bytes w 0 at) (lanes_from bytes w (0 + at * w) n) (sym p ∙ sym (length-lanes bytes w 0 at)))
 

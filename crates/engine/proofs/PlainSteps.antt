@@ -1,13 +1,10 @@
 -- The laws of a shape without modifiers: its sizes, offsets and strides are the configured ones.
-use Rattle.std.proofs.Common.{◌≡◌, ℕ, ◌+◌, ◌<◌, List, get_or, take, ℤ, pos, ◌+ℤ◌, sym, ap, ◌∙◌, w64, to_z, of_z}
+use Rattle.std.proofs.Common.{◌≡◌, ℕ, List, get_or, take, pos, ◌+ℤ◌, sym, ap, ◌∙◌}
 use lib.IntN.{+ℤ_idr}
 use Rattle.codec.specs.declared.operation.Parameter.{Parameter}
 use Rattle.codec.specs.declared.operation.Parameter.TheVariants.{Size, Offset, Stride}
 use Rattle.engine.specs.Loops.{modifiers_of, added, natural, size_at}
 use Rattle.engine.specs.Addresses.{no_bytes, no_elements, offset_at, stride_at, in_bytes}
-use Rattle.engine.specs.Good.{RangedPattern}
-use Rattle.engine.specs.Rows.{pattern_in}
-use Rattle.engine.proofs.RowReads.{offset_read, stride-read}
 use Rattle.engine.specs.declared.stream.Shape.{Shape}
 use Rattle.engine.specs.declared.stream.Pattern.{Pattern}
 
@@ -26,11 +23,9 @@ plain-offset p d outer e = ap (λ z. (get_or p.offsets d no_bytes).0 +ℤ z) (no
 pub plain-stride : (p : Pattern) (d : ℕ) (outer : List ℕ) → p.shape.mods ≡ 0 → stride_at p d outer ≡ (get_or p.strides d no_elements).0
 plain-stride p d outer e = ap (λ z. (get_or p.strides d no_elements).0 +ℤ z) (none-added Stride d outer p.shape e) ∙ +ℤ_idr (get_or p.strides d no_elements).0
 
--- what a dimension adds to an address, of the numbers in the rows
-pub plain-term : (row : List ℕ) (places : List ℤ) → RangedPattern (pattern_in row places) → get_or row 48 0 ≡ 0 → (d : ℕ) → d < 7 → (outer : List ℕ) (i width : ℕ)
-    → to_z w64 (of_z w64 (get_or places (1 + d) (pos 0))) +ℤ in_bytes (to_z w64 (of_z w64 (get_or places (8 + d) (pos 0)))) i width
-    ≡ offset_at (pattern_in row places) d outer +ℤ in_bytes (stride_at (pattern_in row places) d outer) i width
-plain-term row places r z d h outer i width =
-    let p : Pattern = pattern_in row places in
-    ap (λ x. x +ℤ in_bytes (to_z w64 (of_z w64 (get_or places (8 + d) (pos 0)))) i width) (offset_read row places r d h ∙ sym (plain-offset p d outer z))
-    ∙ ap (λ x. offset_at p d outer +ℤ in_bytes x i width) (stride-read row places r d h ∙ sym (plain-stride p d outer z))
+-- what a dimension adds to an address
+pub plain-term : (p : Pattern) → p.shape.mods ≡ 0 → (d : ℕ) (outer : List ℕ) (i width : ℕ)
+    → (get_or p.offsets d no_bytes).0 +ℤ in_bytes (get_or p.strides d no_elements).0 i width ≡ offset_at p d outer +ℤ in_bytes (stride_at p d outer) i width
+plain-term p z d outer i width =
+    ap (λ x. x +ℤ in_bytes (get_or p.strides d no_elements).0 i width) (sym (plain-offset p d outer z))
+    ∙ ap (λ x. offset_at p d outer +ℤ in_bytes x i width) (sym (plain-stride p d outer z))

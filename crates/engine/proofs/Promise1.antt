@@ -7,22 +7,22 @@
 --   encoded                      a sheet that is done is the encodings of what was read
 --   cut-done                     the sheet cut behind operations that are done
 --   promise1
-use Rattle.std.proofs.Common.{◌≡◌, ℕ, zero, suc, ◌-◌, ◌<◌, ◌≤◌, Bool, true, false, cond, ltb, ◌⊎◌, List, [], ◌∷◌, ◌++◌, length, take, sym, refl, ap, ◌∙◌, subst, inl, inr, arith, length-take-le, ltb-false, ltb-true, le-ltb, lt-ltb}
+use Rattle.std.proofs.Common.{◌≡◌, ℕ, zero, suc, ◌-◌, ◌<◌, ◌≤◌, Bool, true, false, cond, ltb, ◌⊎◌, List, [], ◌∷◌, ◌++◌, length, take, sym, refl, ap, ◌∙◌, subst, inl, inr, arith, length-take-le, ltb-false, ltb-true, le-ltb, lt-ltb, Ok, Err}
+use Rattle.std.specs.Prelude.{Ok, Err}
 use Rattle.codec.specs.TestLaws.{never}
 use Rattle.codec.specs.Refusals.{is-numbered}
 use Rattle.codec.specs.NumberLaws.{AreBytes, Stands, stands-join}
 use Rattle.codec.specs.StandingLaws.{stands-all}
-use Rattle.codec.specs.Operations.{operation_at, operation_bytes}
+use Rattle.codec.specs.Operations.{operation_at, operation_bytes, Decoded}
 use Rattle.codec.specs.declared.operation.Operation.{Operation}
 use Rattle.codec.specs.declared.operation.Operation.TheVariants as op
-use Rattle.codec.specs.declared.operation.Decoded.{Decoded}
-use Rattle.codec.specs.declared.operation.Decoded.TheVariants as decoded
 use Rattle.codec.specs.declared.refusal.Refusal.{Refusal}
 use Rattle.codec.specs.declared.refusal.Refusal.TheVariants.{OutOfRange, Lengths, LoopRegister}
+use Rattle.engine.specs.Checks.{Why}
 use Rattle.engine.specs.Registers.{fresh_machine, reg}
 use Rattle.engine.specs.Configure.{register_of, why_not}
 use Rattle.engine.specs.Calculate.{World}
-use Rattle.engine.specs.Run.{Progress, begun, execute}
+use Rattle.engine.specs.Run.{Progress, begun, execute, refusal_at}
 use Rattle.engine.specs.Sheets.{Ending, over, runs, refused, Calculations, whole, broken, is_loop_register, body_at, ending_of, Prepared, on_decoded, prepare, allowed, on_ending, refused_at, run}
 use Rattle.engine.specs.GoodLaws.{fresh-machine-good}
 use Rattle.engine.specs.EndLaws.{Running}
@@ -36,11 +36,8 @@ use Rattle.engine.specs.RanLaws.{execute-ran, ran-one}
 use Rattle.engine.specs.Promise1.{Unread, Configures, OperationAt, after, Turns, BodyAt, LoopsOn, RunAt, world, DoneBefore, Right, Encoded, Promise1}
 use Rattle.engine.specs.ReadingLaws.{read-written, unread-refused, refused-unread}
 use Rattle.engine.specs.StandLaws.{written_on, decoded-refused, onward-written, turns-onward, turns-snoc, turns-on, body-on, body-whole, body-broken, Breaks, body-either, turns-cut, bytes_cut, turns-bytes, body-bytes}
-use Rattle.engine.specs.declared.check.Why.{Why}
-use Rattle.engine.specs.declared.check.Why.TheVariants.{Nothing, Because}
 use Rattle.engine.specs.declared.register.Machine.{Machine}
 use Rattle.engine.specs.declared.run.Placed.{Placed}
-use Rattle.engine.specs.declared.run.Verdict.TheVariants.{Done, Refused}
 
 -- the machine and the ending that the operations of a sheet leave
 abbrev left : Machine → Ending → Prepared
@@ -176,8 +173,8 @@ module _ (vl : ℕ) (s memory : List ℕ) (p : AreBytes s) where
     right-configures o to c w rest = go (why_not o m) refl
       where
         go : (y : Why) → why_not o m ≡ y → Right vl s memory (run vl s memory)
-        go Nothing e = rest ((accepts-clear o m c).0 e)
-        go (Because x) e =
+        go (Ok _) e = rest ((accepts-clear o m c).0 e)
+        go (Err x) e =
             let h : OperationRefused o (reg m (register_of o)) x = (operation-refused o m x).0 e in
             Right.refused f os at m o to x t w h (answered s p os at m t vl memory (refused x at) f (refused-from s p os at m t o to x w h))
 
@@ -194,10 +191,11 @@ module _ (vl : ℕ) (s memory : List ℕ) (p : AreBytes s) where
         operation (op.Run loop count) to w = right-body loop count to w
 
         go : (d : Decoded) → operation_at s at ≡ d → Right vl s memory (run vl s memory)
-        go (decoded.Refused x place) e =
-            let u : Unread s at x = (refused-unread s at p x place e).1 in
+        go (Err r) e =
+            let x = r.refusal in
+            let u : Unread s at x = (refused-unread s at p x r.place e).1 in
             Right.unread f os at m x t h u (answered s p os at m t vl memory (refused x at) f (unread-from s p os at m t x h u))
-        go (decoded.Operation o c) e = operation o c.at (read-written s at o c p e)
+        go (Ok (o, c)) e = operation o c.at (read-written s at o c p e)
 
   -- from any place on, once the operations before it are done
   right-from : (n : ℕ) → Fits vl (length memory) → (os : List Operation) (at : ℕ) (m : Machine) → DoneBefore s os at m → at ≤ length s → length s - at ≤ n
@@ -222,8 +220,8 @@ module _ (vl : ℕ) (s memory : List ℕ) (p : AreBytes s) where
       go true e = right-from (length s) ((fits-allowed vl (length memory)).0 e) [] 0 fresh_machine (refl, refl) (omega arith) (omega arith)
 
 -- a refusal is not done
-not_done : {X : Type 0} (r : Progress) (w : World) (x : Refusal) (at : ℕ) → r.verdict ≡ Done → r ≡ refused_at w x at → X
-not_done r w x at v e = absurd (let q : Refused x at ≡ Done = sym (ap (λ g. g.verdict) e) ∙ v in let z : ◌≡◌ {A = ℕ} 0 1 = cc in omega arith)
+not_done : {X : Type 0} (r : Progress) (w : World) (x : Refusal) (at : ℕ) → r.verdict ≡ Ok tt → r ≡ refused_at w x at → X
+not_done r w x at v e = absurd (let q : refusal_at x at ≡ Ok tt = sym (ap (λ g. g.verdict) e) ∙ v in let z : ◌≡◌ {A = ℕ} 0 1 = cc in omega arith)
 
 -- the encoding of a run has no free bits
 run-bytes : (free loop n : ℕ) → operation_bytes free (op.Run loop n) ≡ operation_bytes 0 (op.Run loop n)
@@ -231,7 +229,7 @@ unfolding operation_bytes
 run-bytes free loop n = refl
 
 -- a right answer that is done is that of a sheet of encodings
-encoded : (vl : ℕ) (s memory : List ℕ) (r : Progress) → Right vl s memory r → r.verdict ≡ Done → Encoded s
+encoded : (vl : ℕ) (s memory : List ℕ) (r : Progress) → Right vl s memory r → r.verdict ≡ Ok tt → Encoded s
 encoded vl s memory r (Right.lengths n x k e) v = not_done r _ _ _ v e
 encoded vl s memory r (Right.over f os m t e) v =
     let b = turns-bytes s 0 fresh_machine os (length s) m (omega arith) t in

@@ -3,7 +3,7 @@
 --   ended-stream, ended-inside    an open or finished register has a stream that was ended; such a stream is in its register, nothing moved
 --   at_each, at-end, streams      the streams at every moment of a run; at its end; both together
 --   promise2
-use Rattle.std.proofs.Common.{◌≡◌, ℕ, ◌<◌, ◌≤◌, ◌⊎◌, List, [], length, take, sym, refl, ap, ◌∙◌, subst, inl, inr, arith}
+use Rattle.std.proofs.Common.{◌≡◌, ℕ, ◌<◌, ◌≤◌, ◌⊎◌, List, [], length, take, sym, refl, ap, ◌∙◌, subst, inl, inr, arith, Ok}
 use lib.Seq.{take-length}
 use Rattle.codec.specs.NumberLaws.{AreBytes}
 use Rattle.codec.specs.declared.operation.Operation.{Operation}
@@ -27,7 +27,6 @@ use Rattle.engine.specs.declared.register.State.TheVariants.{Plain, Configuring,
 use Rattle.engine.specs.declared.register.Register.{Register}
 use Rattle.engine.specs.declared.register.Machine.{Machine}
 use Rattle.engine.specs.declared.run.Placed.{Placed}
-use Rattle.engine.specs.declared.run.Verdict.TheVariants.{Done}
 
 -- an open or finished register is not plain
 pub not_plain : {X : Type 0} (k : State) → (k ≡ Open) ⊎ (k ≡ Finished) → k ≡ Plain → X
@@ -69,7 +68,7 @@ module _ (vl : ℕ) (s memory : List ℕ) (os : List Operation) (at : ℕ) (m : 
         (at_each i h t e (length q.entries)))
 
     -- the loop register's stream, once the run is done
-    all : (t : Stream) → given_for loop os ≡ ended t → r.verdict ≡ Done → moved_of q.entries loop ≡ stops_of t
+    all : (t : Stream) → given_for loop os ≡ ended t → r.verdict ≡ Ok tt → moved_of q.entries loop ≡ stops_of t
     all t e v = (inside-finished t (moved_of q.entries loop) (reg r.world.machine loop) (at-end loop g.below t e)).0 (ap is_finished (q.done v).1)
 
     -- the streams of the run

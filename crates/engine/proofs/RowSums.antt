@@ -5,14 +5,14 @@
 --   passes-held, pass-read        the passes of a coupled stream, and each of them
 --   history-sums, accepted, over, row-sums   the promise
 --   same-at-every-length          at two vector lengths
-use Rattle.std.proofs.Common.{◌≡◌, ℕ, zero, suc, ◌+◌, ◌-◌, ◌*◌, ◌<◌, ◌≤◌, ◌⊎◌, List, [], ◌∷◌, ◌++◌, map, length, get_or, take, drop, sym, refl, ap, ◌∙◌, subst, inl, inr, ⊎_elim, append_assoc, append-nil, eq-or-lt_of_le, arith, length-append, take-append-drop, take-suc, take_at, ext_get_or, drop_at}
+use Rattle.std.specs.Prelude.{Some}
+use Rattle.std.proofs.Common.{◌≡◌, ℕ, zero, suc, ◌+◌, ◌-◌, ◌*◌, ◌<◌, ◌≤◌, ◌⊎◌, List, [], ◌∷◌, ◌++◌, map, length, get_or, take, drop, sym, refl, ap, ◌∙◌, subst, inl, inr, ⊎_elim, append_assoc, append-nil, eq-or-lt_of_le, arith, length-append, take-append-drop, take-suc, take_at, ext_get_or, drop_at, Ok, true}
 use native.Mathlib.Decide.{dec_lt}
 use lib.ListN
 use lib.ListN.{length-map}
 use lib.Seq.{take-length, split_at}
 use Rattle.codec.specs.NumberLaws.{AreBytes}
 use Rattle.codec.specs.declared.header.Kind.TheVariants.{Load}
-use Rattle.codec.specs.declared.header.Coupling.TheVariants.{Coupled}
 use Rattle.codec.specs.declared.operation.Fold.TheVariants.{Smallest, Largest}
 use Rattle.codec.specs.declared.operation.Operation.{Operation}
 use Rattle.engine.specs.Loops.{size_at, join}
@@ -44,11 +44,9 @@ use Rattle.engine.specs.BorderLaws.{with-elements, groups-held, group-some, pass
 use Rattle.engine.proofs.Promise1.{sheet-runs}
 use Rattle.engine.proofs.Steadiness.{apart-steady}
 use Rattle.engine.proofs.Summing.{load_moved, read, summed}
-use Rattle.engine.specs.declared.check.Told.TheVariants.{Yes}
 use Rattle.engine.specs.declared.stream.Pattern.{Pattern}
 use Rattle.engine.specs.declared.register.Machine.{Machine}
 use Rattle.engine.specs.declared.run.Placed.{Placed}
-use Rattle.engine.specs.declared.run.Verdict.TheVariants.{Done}
 
 -- ---- sums
 
@@ -112,7 +110,7 @@ module _ (vl : ℕ) (t : Stream) (w v : World) (es : List Entry) (i : ℕ) (h : 
     count k = length (moved_of (take k es) i)
 
     -- those of one chunk are of one pass
-    one-pass : (k : ℕ) → k < length es → (c : ℕ) → (pattern_of t).shape.coupling ≡ Coupled c → (j : ℕ) → suc j < length ((entry_at es k).taken i)
+    one-pass : (k : ℕ) → k < length es → (c : ℕ) → (pattern_of t).shape.coupling ≡ Some c → (j : ℕ) → suc j < length ((entry_at es k).taken i)
         → drop c (get_or ((entry_at es k).taken i) j []) ≡ drop c (get_or ((entry_at es k).taken i) (suc j) [])
     one-pass k l c e j p =
         let m = a k (omega arith) in
@@ -186,7 +184,7 @@ module _ (vl : ℕ) (t : Stream) (w v : World) (es : List Entry) (i : ℕ) (h : 
 -- ---- the promise
 
 -- coupled, the groups are the passes, with only elements kept
-passes-held : (t : Stream) (c : ℕ) → t.header.coupling ≡ Coupled c → map (elements_in t) (stream_groups (pattern_of t).shape) ≡ passes_of t c
+passes-held : (t : Stream) (c : ℕ) → t.header.coupling ≡ Some c → map (elements_in t) (stream_groups (pattern_of t).shape) ≡ passes_of t c
 passes-held t c e =
     ap (λ k. map (elements_in t) (groups (size_at (pattern_of t).shape) (length t.dimensions) k)) e ∙ groups-held (size_at (pattern_of t).shape) (length t.dimensions) c
 
@@ -224,7 +222,7 @@ module _ (vl : ℕ) (s memory : List ℕ) (b : AreBytes s) (f : Fits vl (length 
 
     -- coupled to dimension c, each pass that it has gone past, from that pass's row
     pass-read : (i : ℕ) → i < 32 → (t : Stream) → given_for i os ≡ ended t → Steady t (world m memory) q.ran.entries i → t.header.kind ≡ Load → (c : ℕ)
-        → t.header.coupling ≡ Coupled c → (n : ℕ) → n < length (passes_of t c) → length (stops_before t (suc n)) ≤ length (moved_of q.ran.entries i)
+        → t.header.coupling ≡ Some c → (n : ℕ) → n < length (passes_of t c) → length (stops_before t (suc n)) ≤ length (moved_of q.ran.entries i)
         → PassRead t (world m memory) q.ran.entries i c n
     unfolding join
     pass-read i h t g steady load c e n p z = found (eq-or-lt_of_le x.in_order)
@@ -304,7 +302,7 @@ module _ (vl : ℕ) (s memory : List ℕ) (b : AreBytes s) (f : Fits vl (length 
           walked = walked;
         }
       where
-        walked : ask_end (run vl s memory).world.machine i ≡ Yes → moved_of q.ran.entries i ≡ stops_of t
+        walked : ask_end (run vl s memory).world.machine i ≡ Ok true → moved_of q.ran.entries i ≡ stops_of t
         walked y =
             let es = q.ran.entries in
             ap (λ z. moved_of z i) (sym (take-length es))
@@ -323,7 +321,7 @@ module _ (vl : ℕ) (s memory : List ℕ) (b : AreBytes s) (f : Fits vl (length 
             )
 
     -- that of the loop register, once the run is done
-    loop-walked : (t : Stream) → given_for loop os ≡ ended t → (run vl s memory).verdict ≡ Done → moved_of q.ran.entries loop ≡ stops_of t
+    loop-walked : (t : Stream) → given_for loop os ≡ ended t → (run vl s memory).verdict ≡ Ok tt → moved_of q.ran.entries loop ≡ stops_of t
     loop-walked t g v = let e : q.stream ≡ t = cc q.is-ended in q.all v ∙ ap stops_of e
 
 -- for every sheet

@@ -6,15 +6,13 @@
 --   opens-clear, extends-clear, modifies-clear, ends-clear, accepts-clear   each operation that configures, and any
 --   lasts-outside, low-high, covers-clear, some-dimension   what an end looks at: low and high, the coupled dimension
 --   names-which, which-names, stream-plain, loops-on   16
-use Rattle.std.specs.Prelude.{◌≡◌, ℕ, zero, suc, ◌+◌, ◌-◌, ◌%◌, ◌<◌, ◌≤◌, Bool, true, false, not, ◌&&◌, ◌||◌, T, ◌⊎◌, ◌↔◌, List, [], ◌∷◌, map, length, drop, ℤ, pos, negsuc, ◌≤ℤ◌, ◌==◌, ◌≢◌, nat_le, slice_index_or, refl}
+use Rattle.std.specs.Prelude.{◌≡◌, ℕ, zero, suc, ◌+◌, ◌-◌, ◌%◌, ◌<◌, ◌≤◌, Bool, true, false, not, ◌&&◌, ◌||◌, T, ◌⊎◌, ◌↔◌, List, [], ◌∷◌, map, length, drop, ℤ, pos, negsuc, ◌≤ℤ◌, ◌==◌, ◌≢◌, nat_le, slice_index_or, refl, Ok, Option, Some, None}
 use Rattle.std.proofs.Common.{sym, ◌∙◌, ap, inl, inr, arith, add-one, drop-drop, leb-true, le-leb, ltb-false, le-ltb, eqb-true, eq-eqb, ne_eqb}
 use Rattle.std.specs.Int.Signed.{non_neg}
 use Rattle.std.proofs.lemmas.Bool.{lt-leb, eqb-false, not-false}
 use Rattle.codec.specs.TestLaws.{never, never_true, or-false, both, and_both}
 use Rattle.codec.specs.declared.header.Kind.{Kind}
 use Rattle.codec.specs.declared.header.Kind.TheVariants.{Load, Store}
-use Rattle.codec.specs.declared.header.Coupling.{Coupling}
-use Rattle.codec.specs.declared.header.Coupling.TheVariants.{Uncoupled, Coupled}
 use Rattle.codec.specs.declared.operation.Operation.{Operation}
 use Rattle.codec.specs.declared.operation.Operation.TheVariants as op
 use Rattle.engine.specs.Rules.{last_index, low_at, highs, highs_of, product, low_or_high_from, low_or_high}
@@ -28,7 +26,6 @@ use Rattle.engine.specs.CalculationLaws.{nothing}
 use Rattle.engine.specs.Allowed.{Fits, Opens, Extends, Modifies, lasts_outside, low_of, high_of, Ends, Accepts}
 use Rattle.engine.specs.Histories.{no_placed}
 use Rattle.engine.specs.Promise1.{Configures, LoopsOn}
-use Rattle.engine.specs.declared.check.Why.TheVariants.{Nothing}
 use Rattle.engine.specs.declared.stream.Shape.{Shape}
 use Rattle.engine.specs.declared.register.State.{State}
 use Rattle.engine.specs.declared.register.State.TheVariants.{Plain, Configuring, Open, Finished}
@@ -110,7 +107,7 @@ fits-allowed vl len =
 -- ---- configuring
 
 -- open
-pub opens-clear : (r : Register) → (first_of (open_checks r) ≡ Nothing) ↔ Opens r
+pub opens-clear : (r : Register) → (first_of (open_checks r) ≡ Ok tt) ↔ Opens r
 opens-clear r = (λ e. go r.state refl (next _ _ _ e).0, back)
   where
     go : (k : State) → r.state ≡ k → (is_configuring k || is_open k) ≡ false → Opens r
@@ -119,7 +116,7 @@ opens-clear r = (λ e. go r.state refl (next _ _ _ e).0, back)
     go Open p e = never_true e
     go Finished p e = Opens.finished p
 
-    back : Opens r → first_of (open_checks r) ≡ Nothing
+    back : Opens r → first_of (open_checks r) ≡ Ok tt
     back (Opens.plain p) = more _ _ [] (ap (λ k. is_configuring k || is_open k) p) nothing
     back (Opens.finished p) = more _ _ [] (ap (λ k. is_configuring k || is_open k) p) nothing
 
@@ -128,14 +125,14 @@ configuring-clear : (r : Register) → r.state ≡ Configuring → not (is_confi
 configuring-clear r e = ap (λ k. not (is_configuring k)) e
 
 -- a dimension
-pub extends-clear : (r : Register) → (first_of (dimension_checks r) ≡ Nothing) ↔ Extends r
+pub extends-clear : (r : Register) → (first_of (dimension_checks r) ≡ Ok tt) ↔ Extends r
 extends-clear r = (
   λ e. let h = dimension-passed r e in record { configuring = (is-configuring r.state).0 h.0; room = h.1 },
   λ x. more _ _ _ (configuring-clear r x.configuring) (more _ _ [] (lt-leb 7 (shape_of r).dims x.room) nothing),
 )
 
 -- a modifier
-pub modifies-clear : (target : ℕ) (r : Register) → (first_of (modifier_checks target r) ≡ Nothing) ↔ Modifies target r
+pub modifies-clear : (target : ℕ) (r : Register) → (first_of (modifier_checks target r) ≡ Ok tt) ↔ Modifies target r
 modifies-clear target r = (
   λ e. let h = modifier-passed target r e in record { configuring = (is-configuring r.state).0 h.0; room = h.1; below = h.2 },
   λ x. more _ _ _ (configuring-clear r x.configuring)
@@ -179,9 +176,9 @@ low-high s = (there, λ h. high-clear s 0 s.dims (omega arith) h)
         rw (lasts-outside s d q) ((nonneg-plain (low_at s d (lasts_from s (suc d)))).0 p.low, p.high)
 
 -- the coupled dimension
-pub covers-clear : (s : Shape) (c : Coupling) → (uncovered s c ≡ false) ↔ Covers s.dims c
-covers-clear s Uncoupled = (λ e. tt, λ h. refl)
-covers-clear s (Coupled c) = (ltb-false s.dims c, le-ltb s.dims c)
+pub covers-clear : (s : Shape) (c : Option ℕ) → (uncovered s c ≡ false) ↔ Covers s.dims c
+covers-clear s None = (λ e. tt, λ h. refl)
+covers-clear s (Some c) = (ltb-false s.dims c, le-ltb s.dims c)
 
 -- a dimension at least
 pub some-dimension : (n : ℕ) → ((n == 0) ≡ false) ↔ (1 ≤ n)
@@ -192,13 +189,13 @@ some-dimension n = (λ e. there n (eqb-false n 0 e), λ h. ne_eqb n 0 (λ q. ome
     there (suc n) f = omega arith
 
 -- end
-pub ends-clear : (r : Register) → (first_of (end_checks r) ≡ Nothing) ↔ Ends r
+pub ends-clear : (r : Register) → (first_of (end_checks r) ≡ Ok tt) ↔ Ends r
 ends-clear r = (there, back)
   where
     s : Shape
     s = shape_of r
 
-    there : first_of (end_checks r) ≡ Nothing → Ends r
+    there : first_of (end_checks r) ≡ Ok tt → Ends r
     there e =
         let a = next _ _ _ e in
         let b = next _ _ _ a.1 in
@@ -214,7 +211,7 @@ ends-clear r = (there, back)
           few = ltb-false 1048576 (product (highs_of s)) d.0;
         }
 
-    back : Ends r → first_of (end_checks r) ≡ Nothing
+    back : Ends r → first_of (end_checks r) ≡ Ok tt
     back x =
         more _ _ _ (configuring-clear r x.configuring)
         (more _ _ _ (neither _ _ ((some-dimension s.dims).1 x.some) ((covers-clear s s.coupling).1 x.covers))
@@ -222,7 +219,7 @@ ends-clear r = (there, back)
         (more _ _ [] (le-ltb 1048576 (product (highs_of s)) x.few) nothing)))
 
 -- any operation that configures, on its register
-pub accepts-clear : (o : Operation) (m : Machine) → Configures o → (why_not o m ≡ Nothing) ↔ Accepts o (reg m (register_of o))
+pub accepts-clear : (o : Operation) (m : Machine) → Configures o → (why_not o m ≡ Ok tt) ↔ Accepts o (reg m (register_of o))
 unfolding why_not
 accepts-clear (op.Open h base) m c = opens-clear (reg m h.register)
 accepts-clear (op.Dimension d) m c = extends-clear (reg m d.register)

@@ -3,7 +3,7 @@
 --   progress-parts                   an answer is the run's verdict, counts and registers, each in its place
 --   turns-some, settled-some         as many operations as were done, and no more: the registers that they leave
 --   settled-over, settled-refused    a sheet set up whole: the verdict and the registers are those of its run, if no run follows
-use Rattle.std.specs.Prelude.{◌≡◌, ℕ, true, List, [], ◌∷◌, length, refl}
+use Rattle.std.specs.Prelude.{◌≡◌, ℕ, true, List, [], ◌∷◌, length, refl, Ok}
 use Rattle.std.proofs.Common.{◌∙◌, ap, arith}
 use Rattle.codec.specs.NumberLaws.{AreBytes}
 use Rattle.codec.specs.declared.operation.Operation.{Operation}
@@ -17,7 +17,6 @@ use Rattle.engine.specs.StandLaws.{written_on, decoded-done}
 use Rattle.engine.specs.Promise1.{Turns, DoneBefore, after}
 use Rattle.engine.specs.declared.register.Machine.{Machine}
 use Rattle.engine.specs.declared.run.Answer.{Answer}
-use Rattle.engine.specs.declared.run.Verdict.TheVariants.{Done}
 
 -- an answer and the memory with it are a run's, each part in its place
 pub progress-parts : (r : Answer) (memory : List ℕ)
@@ -42,7 +41,7 @@ turns-some s at m (o ∷ os) to n b t =
 
 -- so setting up as many operations as were done gives the registers that they leave
 pub settled-some : (s : List ℕ) (os : List Operation) (at : ℕ) (m : Machine) → AreBytes s → DoneBefore s os at m
-    → settled_of (operations_from (length os) s 0 fresh_machine) ≡ record { verdict = Done; machine = m }
+    → settled_of (operations_from (length os) s 0 fresh_machine) ≡ record { verdict = Ok tt; machine = m }
 settled-some s os at m b t = ap settled_of (turns-some s 0 fresh_machine os at m b t)
 
 module _ (vl : ℕ) (s memory : List ℕ) (a : allowed vl (length memory) ≡ true) where

@@ -3,12 +3,10 @@
 --   grouped_before            01's groups: all elements, or the passes of the coupled dimension
 --   groups-before            of every stream: its groups, the elements alone, without those that have none, are 01's
 --   Full, AsBefore, full-as-before   a stream without an empty coupled pass, and every uncoupled one, is what it was
-use Rattle.std.specs.Prelude.{◌≡◌, ℕ, suc, ◌+◌, ◌-◌, ◌/◌, ◌<◌, ◌≤◌, true, false, cond, not, List, [], ◌∷◌, map, length, ◌==◌, nat_le, slice_index_or, refl}
+use Rattle.std.specs.Prelude.{◌≡◌, ℕ, suc, ◌+◌, ◌-◌, ◌/◌, ◌<◌, ◌≤◌, true, false, cond, not, List, [], ◌∷◌, map, length, ◌==◌, nat_le, slice_index_or, refl, Option, Some, None}
 use Rattle.std.proofs.Common.{sym, ◌∙◌, ap, ap₂, subst, arith}
 use Rattle.std.proofs.Math.Decide.{dec_lt}
 use Rattle.std.proofs.Math.ListN.{get_or-eq_default}
-use Rattle.codec.specs.declared.header.Coupling.{Coupling}
-use Rattle.codec.specs.declared.header.Coupling.TheVariants.{Uncoupled, Coupled}
 use Rattle.engine.specs.Configure.{Covers}
 use Rattle.engine.specs.Loops.{size_at, join, loops, elements}
 use Rattle.engine.specs.Chunks.{passes, pass_stops, stops_in, stops, is_element, elements_among, held_in, nothing_at, with_elements, grouped, groups, chunk_of, stream_groups, chunk, differ, height}
@@ -22,15 +20,15 @@ use Rattle.engine.specs.declared.register.Register.{Register}
 
 -- 01: "as many as there are lanes, fewer at the end of the stream or, if coupled, at the end of the current pass of that dimension": what no
 -- chunk crosses, by the elements alone
-abbrev pub grouped_before : (ℕ → List ℕ → ℕ) → ℕ → Coupling → List (List (List ℕ))
-grouped_before size D Uncoupled = loops size 0 D [] ∷ []
-grouped_before size D (Coupled c) = passes size c D
+abbrev pub grouped_before : (ℕ → List ℕ → ℕ) → ℕ → Option ℕ → List (List (List ℕ))
+grouped_before size D None = loops size 0 D [] ∷ []
+grouped_before size D (Some c) = passes size c D
 
 -- the elements of each group
-among-grouped : (size : ℕ → List ℕ → ℕ) (D : ℕ) (k : Coupling) → map (elements_among size) (grouped size D k) ≡ grouped_before size D k
+among-grouped : (size : ℕ → List ℕ → ℕ) (D : ℕ) (k : Option ℕ) → map (elements_among size) (grouped size D k) ≡ grouped_before size D k
 unfolding passes
-among-grouped size D Uncoupled = ap (λ l. l ∷ []) (among-all size (loops size 0 D []) (loops-elements size D))
-among-grouped size D (Coupled c) = among-passes size c (loops size c (D - c) []) (outer-reached size c (D - c))
+among-grouped size D None = ap (λ l. l ∷ []) (among-all size (loops size 0 D []) (loops-elements size D))
+among-grouped size D (Some c) = among-passes size c (loops size c (D - c) []) (outer-reached size c (D - c))
 
 -- those of groups that are not empty, where they are not empty
 with-map : (f : List (List ℕ) → List (List ℕ)) (gs : List (List (List ℕ))) → f [] ≡ [] → with_elements (map f (with_elements gs)) ≡ with_elements (map f gs)
@@ -52,9 +50,9 @@ groups-before s =
     ∙ ap with_elements (among-grouped (size_at s) s.dims s.coupling)
 
 -- every coupled pass that the outer loops reach has an element; an uncoupled stream has no such pass
-abbrev pub FullBy : (ℕ → List ℕ → ℕ) → ℕ → Coupling → Type 0
-FullBy size D Uncoupled = Unit {0}
-FullBy size D (Coupled c) = Each [] (λ o. 1 ≤ length (loops size 0 c o)) (loops size c (D - c) [])
+abbrev pub FullBy : (ℕ → List ℕ → ℕ) → ℕ → Option ℕ → Type 0
+FullBy size D None = Unit {0}
+FullBy size D (Some c) = Each [] (λ o. 1 ≤ length (loops size 0 c o)) (loops size c (D - c) [])
 
 -- of a stream
 abbrev pub Full : Shape → Type 0
@@ -87,15 +85,15 @@ full-passes size c (o ∷ os) h = ap₂ ◌∷◌ (go (pass-view size c o)) (ful
     go (none m e) = absurd (omega (arith, ap length m, h 0 (omega arith)))
 
 -- the groups, and the stops
-full-grouped : (size : ℕ → List ℕ → ℕ) (D : ℕ) (k : Coupling) → FullBy size D k → grouped size D k ≡ grouped_before size D k
+full-grouped : (size : ℕ → List ℕ → ℕ) (D : ℕ) (k : Option ℕ) → FullBy size D k → grouped size D k ≡ grouped_before size D k
 unfolding passes
-full-grouped size D Uncoupled h = refl
-full-grouped size D (Coupled c) h = full-passes size c (loops size c (D - c) []) h
+full-grouped size D None h = refl
+full-grouped size D (Some c) h = full-passes size c (loops size c (D - c) []) h
 
-full-stops : (size : ℕ → List ℕ → ℕ) (D : ℕ) (k : Coupling) → Covers D k → FullBy size D k → stops_in size D k ≡ loops size 0 D []
+full-stops : (size : ℕ → List ℕ → ℕ) (D : ℕ) (k : Option ℕ) → Covers D k → FullBy size D k → stops_in size D k ≡ loops size 0 D []
 unfolding stops_in passes
-full-stops size D Uncoupled c h = refl
-full-stops size D (Coupled d) c h = ap join (full-passes size d (loops size d (D - d) []) h) ∙ passes-join size d D c
+full-stops size D None c h = refl
+full-stops size D (Some d) c h = ap join (full-passes size d (loops size d (D - d) []) h) ∙ passes-join size d D c
 
 -- a stream without an empty coupled pass, and every uncoupled one
 pub full-as-before : (s : Shape) → Covers s.dims s.coupling → Full s → AsBefore s

@@ -6,7 +6,7 @@
 --   number_of_why, number-before     it is the number of the refusal
 --   Plainly, plainly, told-plainly   an answer, its two numbers forgotten
 --   as_before                      whatever says why a calculation is refused, as long as it gives that number: the answers are the same
-use Rattle.std.specs.Prelude.{◌≡◌, ℕ, zero, suc, ◌+◌, ◌≤◌, Bool, true, false, cond, not, ◌&&◌, ◌||◌, List, [], ◌∷◌, ◌++◌, map, length, take, ◌==◌, nat_lt, refl}
+use Rattle.std.specs.Prelude.{◌≡◌, ℕ, zero, suc, ◌+◌, ◌≤◌, Bool, true, false, cond, not, ◌&&◌, ◌||◌, List, [], ◌∷◌, ◌++◌, map, length, take, ◌==◌, nat_lt, refl, Ok, Err}
 use Rattle.std.proofs.Common.{sym, ◌∙◌, ap, arith}
 use Rattle.codec.specs.Refusals.{number_of}
 use Rattle.codec.specs.declared.operation.Task.{Task}
@@ -16,19 +16,15 @@ use Rattle.codec.specs.declared.refusal.Refusal.{Refusal}
 use Rattle.codec.specs.declared.refusal.Refusal.TheVariants.{BadNumber, OutOfRange, FixedBits, NotCarried, WrongState, TooMany, Misplaced, LowHigh, Product, WrongKind, StreamEnded, Widths, LaneCounts, Outside, Lengths, LoopRegister, NoRoom, NoLanes}
 use Rattle.codec.specs.TestLaws.{never, never_true}
 use Rattle.engine.specs.Lanes.{wants_lanes}
-use Rattle.engine.specs.Checks.{Check, first_of}
+use Rattle.engine.specs.Checks.{Check, first_of, Why}
 use Rattle.engine.specs.Registers.{is_configuring, is_open, is_finished, open_load, open_store, next_chunk, to_come, reg}
 use Rattle.engine.specs.Calculate.{World, outside, checks_on, on_named, refusal_of, effect}
-use Rattle.engine.specs.Run.{number_given, place_given, Progress, Reason, begun, stepped, step_by, unless_refused, pass_by, counted, repeat_by}
+use Rattle.engine.specs.Run.{number_given, place_given, Progress, Reason, begun, stepped, step_by, unless_refused, pass_by, counted, repeat_by, Verdict, refusal_at}
 use Rattle.engine.specs.Sheets.{Ending, over, runs, refused, prepare, allowed, refused_at, on_ending_by, run_by, run_from}
-use Rattle.engine.specs.declared.check.Why.{Why}
-use Rattle.engine.specs.declared.check.Why.TheVariants.{Nothing, Because}
 use Rattle.engine.specs.declared.register.Register.{Register}
 use Rattle.engine.specs.declared.register.Machine.{Machine}
 use Rattle.engine.specs.declared.run.Placed.{Placed}
 use Rattle.engine.specs.declared.run.Report.{Report}
-use Rattle.engine.specs.declared.run.Verdict.{Verdict}
-use Rattle.engine.specs.declared.run.Verdict.TheVariants.{Done, Refused}
 
 -- ---- the checks by their numbers
 
@@ -84,8 +80,8 @@ number_before vl c w = numbered_first (on_named (numbers_on c.task) vl c w)
 
 -- the number of a refusal, 0 if there is none
 abbrev pub number_of_why : Why → ℕ
-number_of_why Nothing = 0
-number_of_why (Because x) = number_of x
+number_of_why (Ok _) = 0
+number_of_why (Err x) = number_of x
 
 -- a check by its number
 abbrev by_number : Check → Numbered
@@ -98,7 +94,7 @@ first-number [] = refl
 first-number (c ∷ cs) = go c.applies (first-number cs)
   where
     go : (b : Bool) → number_of_why (first_of cs) ≡ numbered_first (map by_number cs)
-        → number_of_why (cond b (Because c.refusal) (first_of cs)) ≡ cond b (number_of c.refusal) (numbered_first (map by_number cs))
+        → number_of_why (cond b (Err c.refusal) (first_of cs)) ≡ cond b (number_of c.refusal) (numbered_first (map by_number cs))
     go true e = refl
     go false e = e
 
@@ -127,7 +123,7 @@ abbrev pub plainly : Progress → Plainly
 plainly g = record { world = g.world; report = g.report; number = number_given g.verdict; place = place_given g.verdict }
 
 -- done has number 0 and place 0, a refusal its own
-pub told-plainly : (number_given Done ≡ 0) × (place_given Done ≡ 0) × ((x : Refusal) (place : ℕ) → (number_given (Refused x place) ≡ number_of x) × (place_given (Refused x place) ≡ place))
+pub told-plainly : (number_given (Ok tt) ≡ 0) × (place_given (Ok tt) ≡ 0) × ((x : Refusal) (place : ℕ) → (number_given (refusal_at x place) ≡ number_of x) × (place_given (refusal_at x place) ≡ place))
 told-plainly = (refl, refl, λ x place. (refl, refl))
 
 -- no refusal has number 0
@@ -154,19 +150,19 @@ some_number NoLanes = omega arith
 -- what follows is alike if both alternatives are
 follows : (v w : Verdict) → number_given v ≡ number_given w → (g h j k : Progress) → plainly g ≡ plainly h → plainly j ≡ plainly k
     → plainly (unless_refused v g j) ≡ plainly (unless_refused w h k)
-follows Done Done e g h j k p q = q
-follows Done (Refused y b) e g h j k p q = absurd (omega (arith, some_number y))
-follows (Refused x a) Done e g h j k p q = absurd (omega (arith, some_number x))
-follows (Refused x a) (Refused y b) e g h j k p q = p
+follows (Ok _) (Ok _) e g h j k p q = q
+follows (Ok _) (Err y) e g h j k p q = absurd (omega (arith, some_number y.refusal))
+follows (Err x) (Ok _) e g h j k p q = absurd (omega (arith, some_number x.refusal))
+follows (Err x) (Err y) e g h j k p q = p
 
 -- one calculation, from alike progress, for reasons of one number
 one-step : (v w : Why) → number_of_why v ≡ number_of_why w → (place : ℕ) (u : World) (g h : Progress) → plainly g ≡ plainly h
     → plainly (stepped v place u g) ≡ plainly (stepped w place u h)
-one-step Nothing Nothing e place u g h p =
+one-step (Ok _) (Ok _) e place u g h p =
     λ i. record { world = u; report = record { passes = (p i).report.passes; calculations = (p i).report.calculations + 1 }; number = 0; place = 0 }
-one-step Nothing (Because y) e place u g h p = absurd (omega (arith, some_number y))
-one-step (Because x) Nothing e place u g h p = absurd (omega (arith, some_number x))
-one-step (Because x) (Because y) e place u g h p = λ i. record { world = (p i).world; report = (p i).report; number = e i; place = place }
+one-step (Ok _) (Err y) e place u g h p = absurd (omega (arith, some_number y))
+one-step (Err x) (Ok _) e place u g h p = absurd (omega (arith, some_number x))
+one-step (Err x) (Err y) e place u g h p = λ i. record { world = (p i).world; report = (p i).report; number = e i; place = place }
 
 -- one pass more, counted
 one-counted : (g h : Progress) → plainly g ≡ plainly h → plainly (counted g) ≡ plainly (counted h)

@@ -6,7 +6,7 @@
 --   lane-written               of a store only a lane that would be written is named
 --   operand_in, LaneOutside, blamed-lane   the register named, and its lane
 --   Fell                       a run that is refused with 14 (proof: proofs/Fallen)
-use Rattle.std.specs.Prelude.{◌≡◌, ℕ, ◌+◌, ◌<◌, false, List, [], length, take, ℤ, ◌==◌, ◌≢◌, slice_index_or, refl}
+use Rattle.std.specs.Prelude.{◌≡◌, ℕ, ◌+◌, ◌<◌, false, List, [], length, take, ℤ, ◌==◌, ◌≢◌, slice_index_or, refl, Ok, Some, Err}
 use Rattle.std.proofs.Common.{sym, ◌∙◌, ap, subst, arith, length-take, get_or-take, eq-eqb}
 use Rattle.codec.specs.TestLaws.{never}
 use Rattle.codec.specs.Refusals.{number_of, role_number, rolled, one-role}
@@ -14,7 +14,6 @@ use Rattle.codec.specs.Operations.{calculation_at}
 use Rattle.codec.specs.declared.number.Cursor.{Cursor}
 use Rattle.codec.specs.declared.operation.Task.{Task}
 use Rattle.codec.specs.declared.operation.Calculation.{Calculation}
-use Rattle.codec.specs.declared.operation.Body.TheVariants as body
 use Rattle.codec.specs.declared.refusal.Role.{Role}
 use Rattle.codec.specs.declared.refusal.Role.TheVariants as role
 use Rattle.codec.specs.declared.refusal.Refusal.{Refusal}
@@ -28,11 +27,9 @@ use Rattle.engine.specs.Outlines.{element_of}
 use Rattle.engine.specs.Allowed.{Lies, OpenLie}
 use Rattle.engine.specs.Reasons.{Wanted, AsSource, AsDestination, FirstOutside, WantedInside, CalculationRefusedOn}
 use Rattle.engine.specs.ReasonLaws.{calculation-refused}
-use Rattle.engine.specs.declared.check.Why.TheVariants.{Because}
 use Rattle.engine.specs.declared.register.State.TheVariants.{Open}
 use Rattle.engine.specs.declared.register.Register.{Register}
 use Rattle.engine.specs.declared.register.Machine.{Machine}
-use Rattle.engine.specs.declared.outline.Located.TheVariants.{At}
 
 -- "The address check should say which lane, counted from 0, is the first outside, and whether the first source, second source or destination
 -- was at fault": the lane is the first outside of its operand, and the operands looked at before it lie inside. On first source a, second
@@ -91,7 +88,7 @@ blamed-on t vl len n m a b d lane role w =
     (past (Outside lane role) 18 refl (past (Outside lane role) 13 refl (past (Outside lane role) 12 refl s).1).1).1
 
 -- a calculation refused with 14, in a world
-pub blamed : (vl : ℕ) (c : Calculation) (w : World) (lane : ℕ) (role : Role) → refusal_of vl c w ≡ Because (Outside lane role)
+pub blamed : (vl : ℕ) (c : Calculation) (w : World) (lane : ℕ) (role : Role) → refusal_of vl c w ≡ Err (Outside lane role)
     → Blamed vl (length w.memory) (outcome_count c.task (length (given vl w.memory (reg w.machine c.first))))
     (reg w.machine c.first) (reg w.machine c.second) (reg w.machine c.destination) lane role
 blamed vl c w lane role e = blamed-on c.task vl _ _ _ _ _ _ lane role ((calculation-refused vl c w (Outside lane role)).0 e)
@@ -104,7 +101,7 @@ not-second vl len n a b d lane r e (Blamed.second p f) g =
 not-second vl len n a b d lane r e (Blamed.destination p q f) g = let z : ◌≡◌ {A = ℕ} 2 1 = ap role_number g in omega arith
 
 -- "a load named twice is the first source"
-pub twice-first : (vl : ℕ) (c : Calculation) (w : World) (lane : ℕ) (r : Role) → c.second ≡ c.first → refusal_of vl c w ≡ Because (Outside lane r)
+pub twice-first : (vl : ℕ) (c : Calculation) (w : World) (lane : ℕ) (r : Role) → c.second ≡ c.first → refusal_of vl c w ≡ Err (Outside lane r)
     → r ≢ role.Second
 twice-first vl c w lane r e f = not-second vl _ _ _ _ _ lane r (ap (reg w.machine) e) (blamed vl c w lane r f)
 
@@ -145,10 +142,10 @@ blamed-lane vl len n m c lane r (Blamed.destination p q f) =
 pub record Fell (vl : ℕ) (s memory : List ℕ) (lane : ℕ) (r : Role) (place : ℕ) : Type 0 where
   pub calculation : Calculation
   pub next : Cursor
-  pub stands : calculation_at s place ≡ body.Calculation calculation next
-  pub refused : refusal_of vl calculation (run vl s memory).world ≡ Because (Outside lane r)
+  pub stands : calculation_at s place ≡ Ok (calculation, next)
+  pub refused : refusal_of vl calculation (run vl s memory).world ≡ Err (Outside lane r)
   pub small : (reg (run vl s memory).world.machine (operand_in calculation r)).moved + lane < 1048576
   pub at : ℤ
   pub located : element_of (reg (prepare s fresh_machine).machine (operand_in calculation r)) ((reg (run vl s memory).world.machine (operand_in calculation r)).moved + lane)
-      ≡ At (record { 0 = at })
+      ≡ Some (record { 0 = at })
   pub lies : ¬ Lies (length (run vl s memory).world.memory) (reg (run vl s memory).world.machine (operand_in calculation r)).width at

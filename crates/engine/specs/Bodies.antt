@@ -1,57 +1,39 @@
--- A sheet's body and ending as the code keeps them: an array of sixteen steps with their count, and what reading it told.
+-- A sheet's body and ending as the code keeps them, and what was read of them or refused.
 --
---   body_of                       the calculations of a body
---   calculations_of, ending_is, prepared_is   what was told, in the definitions' words
---   turn_of                       whether an operation is a run
+--   calculations_of, run_is, ending_is, prepared_is   what was told, in the definitions' words
 --   progress_of, Executed         an answer and the memory with it, in the definitions' words
 --   verdict_of, settled_of         what some operations of a sheet leave
-use Rattle.std.specs.Prelude.{◌≡◌, ℕ, List, take}
+use Rattle.std.specs.Prelude.{◌≡◌, ℕ, List, Option, None, Some, Result, Ok, Err}
+use Rattle.arrayvec.specs.ArrayVec.{ArrayVec}
+use Rattle.codec.specs.declared.refusal.Refused.{Refused}
 use Rattle.engine.specs.Sheets.{Calculations, whole, broken, Ending, over, runs, refused}
 use Rattle.engine.specs.Sheets
-use Rattle.engine.specs.Run.{Progress, execute}
+use Rattle.engine.specs.Run.{Progress, execute, Verdict, refusal_at}
 use Rattle.engine.specs.declared.register.Machine.{Machine}
 use Rattle.engine.specs.declared.run.Answer.{Answer}
 use Rattle.engine.specs.declared.run.Settled.{Settled}
-use Rattle.engine.specs.declared.run.Verdict.{Verdict}
-use Rattle.engine.specs.declared.run.Verdict.TheVariants.{Done, Refused}
 use Rattle.engine.specs.declared.run.Placed.{Placed}
-use Rattle.engine.specs.declared.sheet.Steps.{Steps}
-use Rattle.engine.specs.declared.sheet.Reading as reading
-use Rattle.engine.specs.declared.sheet.Reading.TheVariants as told
-use Rattle.engine.specs.declared.sheet.Ending as ending
-use Rattle.engine.specs.declared.sheet.Ending.TheVariants as ended
-use Rattle.engine.specs.declared.sheet.Prepared as prepared
-use Rattle.engine.specs.declared.sheet.Turn as turn
-use Rattle.engine.specs.declared.sheet.Turn.TheVariants as turns
-use Rattle.codec.specs.declared.operation.Operation.{Operation}
-use Rattle.codec.specs.declared.operation.Operation.TheVariants as op
+use Rattle.engine.specs.declared.sheet.Run.{Run}
 
--- the calculations of a body: the first steps
-abbrev pub body_of : Steps → List Placed
-body_of b = take b.count b.steps
+-- a body read whole, with the place behind it, or broken
+abbrev pub calculations_of : Result (ArrayVec Placed × ℕ) Refused → Calculations
+calculations_of (Ok read) = whole read.0.items read.1
+calculations_of (Err x) = broken x.refusal x.place
 
--- a body read whole or broken
-abbrev pub calculations_of : reading.Reading → List Placed → Calculations
-calculations_of (told.Whole at) cs = whole cs at
-calculations_of (told.Broken x place) cs = broken x place
+-- how a sheet ended at its run
+abbrev pub run_is : Result Run Refused → Ending
+run_is (Ok r) = runs r.register r.body.items
+run_is (Err x) = refused x.refusal x.place
 
 -- how the operations of a sheet ended
-abbrev pub ending_is : ending.Ending → List Placed → Ending
-ending_is ended.Over cs = over
-ending_is (ended.Runs loop) cs = runs loop cs
-ending_is (ended.Refused x place) cs = refused x place
+abbrev pub ending_is : Result (Option Run) Refused → Ending
+ending_is (Ok None) = over
+ending_is (Ok (Some r)) = runs r.register r.body.items
+ending_is (Err x) = refused x.refusal x.place
 
 -- what a sheet's operations leave, in the definitions' words
-abbrev pub prepared_is : prepared.Prepared → Sheets.Prepared
-prepared_is p = record { machine = p.machine; ending = ending_is p.ending (body_of p.body) }
-
--- what an operation is to the sheet: a run, or one that configures
-abbrev pub turn_of : Operation → turn.Turn
-turn_of (op.Open h base) = turns.Configures
-turn_of (op.Dimension d) = turns.Configures
-turn_of (op.Modifier m) = turns.Configures
-turn_of (op.End i) = turns.Configures
-turn_of (op.Run i n) = turns.Run i n
+abbrev pub prepared_is : Result (Option Run) Refused → Machine → Sheets.Prepared
+prepared_is r m = record { machine = m; ending = ending_is r }
 
 -- an answer and the memory with it
 abbrev pub progress_of : Answer → List ℕ → Progress
@@ -63,9 +45,9 @@ Executed vl loop body m memory r after = progress_of r after ≡ execute vl loop
 
 -- the verdict so far: a run that follows is not yet executed
 abbrev pub verdict_of : Ending → Verdict
-verdict_of over = Done
-verdict_of (runs loop cs) = Done
-verdict_of (refused x place) = Refused x place
+verdict_of over = Ok tt
+verdict_of (runs loop cs) = Ok tt
+verdict_of (refused x place) = refusal_at x place
 
 -- the registers after some operations of a sheet, and the verdict so far
 abbrev pub settled_of : Sheets.Prepared → Settled

@@ -5,14 +5,12 @@
 --   left-border     at the last stop of some groups, one is left of its group
 --   group-ends      where groups end, the stream ends or a pass does
 --   pass-row        the row
-use Rattle.std.specs.Prelude.{◌≡◌, ℕ, zero, suc, ◌+◌, ◌-◌, ◌<◌, ◌≤◌, ◌⊎◌, List, [], ◌∷◌, ◌++◌, map, length, slice_index_or, refl}
+use Rattle.std.specs.Prelude.{◌≡◌, ℕ, zero, suc, ◌+◌, ◌-◌, ◌<◌, ◌≤◌, ◌⊎◌, List, [], ◌∷◌, ◌++◌, map, length, slice_index_or, refl, Option, Some}
 use Rattle.std.proofs.Math.Path.{sym, ap, subst}
 use Rattle.std.proofs.Common.{◌∙◌, inl, inr, ⊎_elim, append_assoc, append-nil, arith}
 use Rattle.std.proofs.Math.Decide.{dec_lt}
 use Rattle.std.proofs.Math.ListN.{length-append}
 use Rattle.std.proofs.Math.Seq.{get_or-append_seam}
-use Rattle.codec.specs.declared.header.Coupling.{Coupling}
-use Rattle.codec.specs.declared.header.Coupling.TheVariants.{Coupled}
 use Rattle.engine.specs.Loops.{size_at, join, loops}
 use Rattle.engine.specs.Members.{Each}
 use Rattle.engine.specs.Chunks.{passes, pass_stops, stops, elements_among, with_elements, grouped, groups, stream_groups, chunk}
@@ -45,7 +43,7 @@ with_all ([] ∷ gs) h = absurd (omega (arith, h 0 (omega arith)))
 with_all ((x ∷ g) ∷ gs) h = ap (λ l. (x ∷ g) ∷ l) (with_all gs (λ j p. h (suc j) (omega arith)))
 
 -- every group of a stream has a stop
-pub groups-some : (size : ℕ → List ℕ → ℕ) (D : ℕ) (k : Coupling) → AllSome (groups size D k)
+pub groups-some : (size : ℕ → List ℕ → ℕ) (D : ℕ) (k : Option ℕ) → AllSome (groups size D k)
 unfolding groups
 groups-some size D k = with-elements (grouped size D k)
 
@@ -57,12 +55,12 @@ module _ (size : ℕ → List ℕ → ℕ) where
   passes-some c (o ∷ os) (suc j) p = passes-some c os j (omega arith)
 
   -- coupled, the groups are the stops of the passes, of all that the outer loops reach
-  pub groups-coupled : (D c : ℕ) → groups size D (Coupled c) ≡ map (pass_stops size c) (loops size c (D - c) [])
+  pub groups-coupled : (D c : ℕ) → groups size D (Some c) ≡ map (pass_stops size c) (loops size c (D - c) [])
   unfolding groups
   groups-coupled D c = with_all (map (pass_stops size c) (loops size c (D - c) [])) (passes-some c (loops size c (D - c) []))
 
   -- with only elements kept they are the passes, also those that hold none
-  pub groups-held : (D c : ℕ) → map (elements_among size) (groups size D (Coupled c)) ≡ passes size c D
+  pub groups-held : (D c : ℕ) → map (elements_among size) (groups size D (Some c)) ≡ passes size c D
   unfolding passes
   groups-held D c = ap (map (elements_among size)) (groups-coupled D c) ∙ among-passes size c (loops size c (D - c) []) (outer-reached size c (D - c))
 

@@ -14,9 +14,8 @@ use Rattle.codec.specs.declared.refusal.Refusal.TheVariants.{WrongState, StreamE
 use Rattle.engine.specs.Addresses.{address, inside}
 use Rattle.engine.specs.Memory.{fetch, stored, contents, holding}
 use Rattle.engine.specs.Lanes.{outcome, outcome_count, wants_lanes}
-use Rattle.engine.specs.Checks.{Check, ◌if◌, first_of}
+use Rattle.engine.specs.Checks.{Check, ◌if◌, first_of, Why}
 use Rattle.engine.specs.Registers.{is_configuring, is_open, is_finished, open_load, open_store, next_chunk, moved_by, reg, put}
-use Rattle.engine.specs.declared.check.Why.{Why}
 use Rattle.engine.specs.declared.stream.Pattern.{Pattern}
 use Rattle.engine.specs.declared.register.Register.{Register}
 use Rattle.engine.specs.declared.register.Machine.{Machine}

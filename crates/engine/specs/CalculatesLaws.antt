@@ -4,7 +4,7 @@
 --   source_clear, destination-clear, store-clear   a source, a destination, a destination that is open
 --   some-clear                               18
 --   calculates-passed, passed-calculates, calculates-clear   a calculation
-use Rattle.std.specs.Prelude.{◌≡◌, ℕ, zero, suc, ◌+◌, ◌≤◌, Bool, true, false, not, ◌&&◌, ◌↔◌, List, [], ◌∷◌, take, ℤ, pos, negsuc, ◌==◌, nat_le, refl}
+use Rattle.std.specs.Prelude.{◌≡◌, ℕ, zero, suc, ◌+◌, ◌≤◌, Bool, true, false, not, ◌&&◌, ◌↔◌, List, [], ◌∷◌, take, ℤ, pos, negsuc, ◌==◌, nat_le, refl, Ok}
 use Rattle.std.proofs.Common.{sym, ◌∙◌, ap, arith, ltb-false, le-ltb, eqb-true, eq-eqb, ne_eqb}
 use Rattle.std.proofs.lemmas.Bool.{eqb-false, not-false}
 use Rattle.codec.specs.TestLaws.{never, never_true, or-false, and-false, both, and_right, and_both}
@@ -20,7 +20,6 @@ use Rattle.engine.specs.Registers.{is_configuring, is_open, is_finished, is_load
 use Rattle.engine.specs.Calculate.{World, all_inside, outside, refusal_of}
 use Rattle.engine.specs.CalculationLaws.{ChecksPassed, checked, not-refused}
 use Rattle.engine.specs.Allowed.{Lies, AllLie, OpenLie, Source, Destination, SomeLanes, CalculatesOn, Calculates}
-use Rattle.engine.specs.declared.check.Why.TheVariants.{Nothing}
 use Rattle.engine.specs.declared.stream.Pattern.{Pattern}
 use Rattle.engine.specs.declared.register.State.{State}
 use Rattle.engine.specs.declared.register.State.TheVariants.{Plain, Configuring, Open, Finished}
@@ -159,6 +158,6 @@ module _ (t : Task) (vl len n m : ℕ) (a b d : Register) where
       }
 
 -- not refused exactly if the plain conditions hold
-pub calculates-clear : (vl : ℕ) (c : Calculation) (w : World) → (refusal_of vl c w ≡ Nothing) ↔ Calculates vl c w
+pub calculates-clear : (vl : ℕ) (c : Calculation) (w : World) → (refusal_of vl c w ≡ Ok tt) ↔ Calculates vl c w
 calculates-clear vl c w =
     (λ e. calculates-passed _ _ _ _ _ _ _ _ (checked vl c w e), λ h. not-refused vl c w (passed-calculates _ _ _ _ _ _ _ _ h))

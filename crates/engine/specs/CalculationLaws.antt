@@ -3,7 +3,7 @@
 --   Named, named                               the registers that a calculation names are among the 32
 --   ChecksPassed, passed, nothing, unrefused         the checks that did not apply, by name
 --   PassedIn, checked, not-refused             those of a calculation in a world: not refused exactly if it passes them
-use Rattle.std.specs.Prelude.{◌≡◌, ℕ, ◌<◌, true, false, not, ◌&&◌, ◌||◌, [], length, take, ◌==◌, nat_lt, refl}
+use Rattle.std.specs.Prelude.{◌≡◌, ℕ, ◌<◌, true, false, not, ◌&&◌, ◌||◌, [], length, take, ◌==◌, nat_lt, refl, Ok}
 use Rattle.std.proofs.Common.{arith}
 use Rattle.codec.specs.Operations.{calculation_in_range}
 use Rattle.codec.specs.RangeLaws.{calculation-range}
@@ -14,7 +14,6 @@ use Rattle.engine.specs.Checks.{first_of}
 use Rattle.engine.specs.Registers.{is_configuring, is_finished, open_load, open_store, next_chunk, reg}
 use Rattle.engine.specs.Calculate.{World, given, outside, checks_on, refusal_of}
 use Rattle.engine.specs.GoodLaws.{next, more}
-use Rattle.engine.specs.declared.check.Why.TheVariants.{Nothing}
 use Rattle.engine.specs.declared.register.Register.{Register}
 
 -- the registers that a calculation names are among the 32
@@ -48,7 +47,7 @@ pub record ChecksPassed (t : Task) (vl len n m : ℕ) (a b d : Register) : Type 
   pub destination-inside : outside len d (take (outcome_count t n) (next_chunk vl d)) ≡ false
 
 -- where no check gives a refusal, each was passed
-pub passed : (t : Task) (vl len n m : ℕ) (a b d : Register) → first_of (checks_on t vl len n m a b d) ≡ Nothing → ChecksPassed t vl len n m a b d
+pub passed : (t : Task) (vl len n m : ℕ) (a b d : Register) → first_of (checks_on t vl len n m a b d) ≡ Ok tt → ChecksPassed t vl len n m a b d
 passed t vl len n m a b d e =
     let k1 = next _ _ _ e in
     let k2 = next _ _ _ k1.1 in
@@ -84,12 +83,12 @@ passed t vl len n m a b d e =
     }
 
 -- no check gives no refusal
-pub nothing : first_of [] ≡ Nothing
+pub nothing : first_of [] ≡ Ok tt
 unfolding first_of
 nothing = refl
 
 -- and the reverse
-pub unrefused : (t : Task) (vl len n m : ℕ) (a b d : Register) → ChecksPassed t vl len n m a b d → first_of (checks_on t vl len n m a b d) ≡ Nothing
+pub unrefused : (t : Task) (vl len n m : ℕ) (a b d : Register) → ChecksPassed t vl len n m a b d → first_of (checks_on t vl len n m a b d) ≡ Ok tt
 unrefused t vl len n m a b d p =
     more _ _ _ p.first-state
     (more _ _ _ p.first_ended
@@ -118,11 +117,11 @@ PassedIn vl c w =
     (reg w.machine c.destination)
 
 -- a calculation that is not refused passed its checks
-pub checked : (vl : ℕ) (c : Calculation) (w : World) → refusal_of vl c w ≡ Nothing → PassedIn vl c w
+pub checked : (vl : ℕ) (c : Calculation) (w : World) → refusal_of vl c w ≡ Ok tt → PassedIn vl c w
 unfolding refusal_of
 checked vl c w e = passed _ _ _ _ _ _ _ _ e
 
 -- one that passes them is not refused
-pub not-refused : (vl : ℕ) (c : Calculation) (w : World) → PassedIn vl c w → refusal_of vl c w ≡ Nothing
+pub not-refused : (vl : ℕ) (c : Calculation) (w : World) → PassedIn vl c w → refusal_of vl c w ≡ Ok tt
 unfolding refusal_of
 not-refused vl c w p = unrefused _ _ _ _ _ _ _ _ p

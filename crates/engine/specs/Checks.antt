@@ -1,11 +1,14 @@
 -- Ordered checks.
 --
+--   Why                     that nothing is refused, or the refusal
 --   Check, _if_            a refusal and whether it applies
 --   first_of                the first of a list that applies
-use Rattle.std.specs.Prelude.{Bool, cond, List, [], ◌∷◌}
+use Rattle.std.specs.Prelude.{Bool, cond, List, [], ◌∷◌, Result, Ok, Err}
 use Rattle.codec.specs.declared.refusal.Refusal.{Refusal}
-use Rattle.engine.specs.declared.check.Why.{Why}
-use Rattle.engine.specs.declared.check.Why.TheVariants.{Nothing, Because}
+
+-- that nothing is refused, or the refusal
+abbrev pub Why : Type 0
+Why = Result (Unit {0}) Refusal
 
 -- a refusal, and whether it applies
 pub record Check : Type 0 where
@@ -19,5 +22,5 @@ x if b = record { refusal = x; applies = b }
 
 -- the first that applies
 unfoldable pub first_of : List Check → Why
-first_of [] = Nothing
-first_of (c ∷ cs) = cond c.applies (Because c.refusal) (first_of cs)
+first_of [] = Ok tt
+first_of (c ∷ cs) = cond c.applies (Err c.refusal) (first_of cs)

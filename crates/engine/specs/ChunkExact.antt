@@ -4,14 +4,12 @@
 --   chunk-same           a stream has one chunk at a place
 --   left_by              some elements further, as many less are left of the group
 --   chunk-is, chunk-one  the engine's chunk is that one
-use Rattle.std.specs.Prelude.{◌≡◌, ℕ, zero, suc, ◌+◌, ◌-◌, ◌<◌, ◌≤◌, min, ◌⊎◌, ◌↔◌, List, [], length, get_or, take, drop, slice_index_or}
+use Rattle.std.specs.Prelude.{◌≡◌, ℕ, zero, suc, ◌+◌, ◌-◌, ◌<◌, ◌≤◌, min, ◌⊎◌, ◌↔◌, List, [], length, get_or, take, drop, slice_index_or, Option, Some, None}
 use Rattle.std.proofs.Math.Path.{refl, ap, subst}
 use Rattle.std.proofs.Common.{sym, ◌∙◌, ⊎_elim, eq-or-lt_of_le, length-take, length-drop, get_or-take, get_or-drop}
 use Rattle.std.proofs.Math.Logic.{⊎_map}
 use native.Mathlib.Omega.{arith}
 use Rattle.std.proofs.Math.Decide.{dec_lt}
-use Rattle.codec.specs.declared.header.Coupling.{Coupling}
-use Rattle.codec.specs.declared.header.Coupling.TheVariants.{Uncoupled, Coupled}
 use Rattle.engine.specs.Configure.{Covers}
 use Rattle.engine.specs.Loops.{size_at}
 use Rattle.engine.specs.Chunks.{stops_in, stops, groups, stream_groups, chunk}
@@ -88,7 +86,7 @@ module _ (s : Shape) (a : Accepted s) where
   left_in n h = omega (arith, left-most (stream_groups s) n, ap length (groups-join (size_at s) s.dims s.coupling))
 
   -- coupled to dimension c: the next stop differs in no index above it exactly if it is of the same group
-  same-pass : (c : ℕ) → s.coupling ≡ Coupled c → (n : ℕ) → suc n < length (stops s)
+  same-pass : (c : ℕ) → s.coupling ≡ Some c → (n : ℕ) → suc n < length (stops s)
       → (drop c (slice_index_or (stops s) n []) ≡ drop c (slice_index_or (stops s) (suc n) [])) ↔ (1 < left_in_group (stream_groups s) n)
   same-pass c e n h =
       let d = differ-drop c _ _ (stop-even s cover n (suc n) (omega arith) h) in
@@ -102,11 +100,11 @@ module _ (s : Shape) (a : Accepted s) where
   unfolding stops_in
   pass-ends n p h e = go s.coupling refl
     where
-      go : (k : Coupling) → s.coupling ≡ k → PassEnds s n
-      go Uncoupled f =
-          let l : n < length (stops_in (size_at s) s.dims Uncoupled) = subst (λ k. n < length (stops_in (size_at s) s.dims k)) f h in
+      go : (k : Option ℕ) → s.coupling ≡ k → PassEnds s n
+      go None f =
+          let l : n < length (stops_in (size_at s) s.dims None) = subst (λ k. n < length (stops_in (size_at s) s.dims k)) f h in
           absurd (omega (arith, ap (λ k. left_in_group (groups (size_at s) s.dims k) (n - 1)) f, group-uncoupled (size_at s) s.dims (n - 1)))
-      go (Coupled c) f =
+      go (Some c) f =
           let j : n ≡ suc (n - 1) = omega arith in
           record {
             dimension = c;
@@ -124,7 +122,7 @@ module _ (s : Shape) (a : Accepted s) where
     some = chunk-some (stream_groups s) lanes n p (omega (arith, ap length (groups-join (size_at s) s.dims s.coupling)))
 
     -- if coupled, its stops are of one pass
-    one-pass : (c : ℕ) → s.coupling ≡ Coupled c → (k : ℕ) → suc k < length (chunk s lanes n)
+    one-pass : (c : ℕ) → s.coupling ≡ Some c → (k : ℕ) → suc k < length (chunk s lanes n)
         → drop c (slice_index_or (chunk s lanes n) k []) ≡ drop c (slice_index_or (chunk s lanes n) (suc k) [])
     one-pass c e k q =
         let f = chunk-at s n (chunk s lanes n) (chunk-stops s lanes n) in

@@ -9,15 +9,13 @@
 --   chunks_from, chunks-front  the chunks taken one after the other; joined they are the front of what is left
 --   EachOnce, each-once       from the first on they are the members, each once
 --   chunk-stops               the next chunk of a stream is the front of its stops that are left
-use Rattle.std.specs.Prelude.{◌≡◌, ℕ, zero, suc, ◌+◌, ◌-◌, ◌<◌, ◌≤◌, min, false, ◌↔◌, List, [], ◌∷◌, ◌++◌, map, length, take, drop}
+use Rattle.std.specs.Prelude.{◌≡◌, ℕ, zero, suc, ◌+◌, ◌-◌, ◌<◌, ◌≤◌, min, false, ◌↔◌, List, [], ◌∷◌, ◌++◌, map, length, take, drop, Option, Some, None}
 use Rattle.std.proofs.Math.Path.{refl, sym, ap}
 use Rattle.std.proofs.Common.{◌∙◌, append-nil, arith, zero-add, add-zero, add-suc, length-append, length-drop, take-append-drop, take_all, drop-drop, ltb-false}
 use Rattle.std.proofs.lemmas.List.{map-append}
 use Rattle.std.proofs.Math.Decide.{dec_le}
 use Rattle.std.proofs.Math.ListN.{length-take}
 use Rattle.std.proofs.Math.Seq.{take-take, take-add, take-length}
-use Rattle.codec.specs.declared.header.Coupling.{Coupling}
-use Rattle.codec.specs.declared.header.Coupling.TheVariants.{Uncoupled, Coupled}
 use Rattle.engine.specs.Loops.{size_at, join, span, loops}
 use Rattle.engine.specs.Chunks.{passes, stops_in, stops, groups, left_after, next_group, chunk_of, chunk}
 use Rattle.engine.specs.GroupLaws.{join-append, join-with_elements, left_after-join, left_in_group, left-some, left-most, next_group-front}
@@ -50,15 +48,15 @@ unfolding passes
 passes-join size c D h = let e : c + (D - c) ≡ D = omega arith in loops-join size c (D - c) [] ∙ ap (λ n. loops size 0 n []) e
 
 -- a coupled dimension is one of the dimensions, as end asks
-pub covered : (s : Shape) (k : Coupling) → uncovered s k ≡ false → Covers s.dims k
-covered s Uncoupled e = tt
-covered s (Coupled c) e = ltb-false s.dims c e
+pub covered : (s : Shape) (k : Option ℕ) → uncovered s k ≡ false → Covers s.dims k
+covered s None e = tt
+covered s (Some c) e = ltb-false s.dims c e
 
 -- the groups joined are the stops
-pub groups-join : (size : ℕ → List ℕ → ℕ) (D : ℕ) (k : Coupling) → join (groups size D k) ≡ stops_in size D k
+pub groups-join : (size : ℕ → List ℕ → ℕ) (D : ℕ) (k : Option ℕ) → join (groups size D k) ≡ stops_in size D k
 unfolding groups join stops_in
-groups-join size D Uncoupled = join-with_elements _ ∙ append-nil (loops size 0 D [])
-groups-join size D (Coupled c) = join-with_elements _
+groups-join size D None = join-with_elements _ ∙ append-nil (loops size 0 D [])
+groups-join size D (Some c) = join-with_elements _
 
 module _ {A : Type 0} where
   -- no more can be taken than there are

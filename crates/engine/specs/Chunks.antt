@@ -7,9 +7,7 @@
 --   left_after, next_group      what is left of the groups after some stops
 --   chunk                     the next chunk
 --   differ, height, flag      the end flags
-use Rattle.std.specs.Prelude.{ℕ, zero, suc, ◌-◌, Bool, true, cond, not, ◌&&◌, List, [], ◌∷◌, ◌++◌, map, length, take, drop, replicate, ◌==◌, nat_le, nat_lt, slice_index_or}
-use Rattle.codec.specs.declared.header.Coupling.{Coupling}
-use Rattle.codec.specs.declared.header.Coupling.TheVariants.{Uncoupled, Coupled}
+use Rattle.std.specs.Prelude.{ℕ, zero, suc, ◌-◌, Bool, true, cond, not, ◌&&◌, List, [], ◌∷◌, ◌++◌, map, length, take, drop, replicate, ◌==◌, nat_le, nat_lt, slice_index_or, Option, Some, None}
 use Rattle.engine.specs.Loops.{size_at, join, loops}
 use Rattle.engine.specs.declared.stream.Shape.{Shape}
 
@@ -30,9 +28,9 @@ unfoldable pub pass_stops : (ℕ → List ℕ → ℕ) → ℕ → List ℕ → 
 pass_stops size c outer = or_one (replicate c 0 ++ outer) (loops size 0 c outer)
 
 -- where the loops of D dimensions stop, in order: uncoupled, at the elements; coupled, pass by pass
-unfoldable pub stops_in : (ℕ → List ℕ → ℕ) → ℕ → Coupling → List (List ℕ)
-stops_in size D Uncoupled = loops size 0 D []
-stops_in size D (Coupled c) = join (map (pass_stops size c) (loops size c (D - c) []))
+unfoldable pub stops_in : (ℕ → List ℕ → ℕ) → ℕ → Option ℕ → List (List ℕ)
+stops_in size D None = loops size 0 D []
+stops_in size D (Some c) = join (map (pass_stops size c) (loops size c (D - c) []))
 
 -- the stops of a stream, in order
 abbrev pub stops : Shape → List (List ℕ)
@@ -63,12 +61,12 @@ with_elements ([] ∷ gs) = with_elements gs
 with_elements ((x ∷ g) ∷ gs) = (x ∷ g) ∷ with_elements gs
 
 -- the stops in groups that no chunk crosses: all in one, or "if coupled" by the passes of that dimension
-abbrev pub grouped : (ℕ → List ℕ → ℕ) → ℕ → Coupling → List (List (List ℕ))
-grouped size D Uncoupled = loops size 0 D [] ∷ []
-grouped size D (Coupled c) = map (pass_stops size c) (loops size c (D - c) [])
+abbrev pub grouped : (ℕ → List ℕ → ℕ) → ℕ → Option ℕ → List (List (List ℕ))
+grouped size D None = loops size 0 D [] ∷ []
+grouped size D (Some c) = map (pass_stops size c) (loops size c (D - c) [])
 
 -- the groups that have a stop
-unfoldable pub groups : (ℕ → List ℕ → ℕ) → ℕ → Coupling → List (List (List ℕ))
+unfoldable pub groups : (ℕ → List ℕ → ℕ) → ℕ → Option ℕ → List (List (List ℕ))
 groups size D coupling = with_elements (grouped size D coupling)
 
 -- what is left of groups after n stops

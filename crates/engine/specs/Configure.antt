@@ -4,26 +4,24 @@
 --   open_checks .. end_checks         why each is refused, in 01's order
 --   opened .. ended                 what each that is not refused makes of its register
 --   register_of, checks_for, applied  of any of them
+--   unless_because, or_refusal   the new one, or else the old one; the new one, or else the refusal
 --   configured                      on the machine
-use Rattle.std.specs.Prelude.{ℕ, ◌+◌, ◌-◌, ◌≤◌, Bool, false, not, ◌||◌, List, [], ◌∷◌, ◌==◌, nat_le, nat_lt, slice_set}
+use Rattle.std.specs.Prelude.{ℕ, ◌+◌, ◌-◌, ◌≤◌, Bool, false, not, ◌||◌, List, [], ◌∷◌, ◌==◌, nat_le, nat_lt, slice_set, Result, Ok, Err, Option, Some, None}
 use Rattle.codec.specs.Headers.{bytes_of}
 use Rattle.codec.specs.declared.amounts.Bytes.{Bytes}
 use Rattle.codec.specs.declared.header.Header.{Header}
-use Rattle.codec.specs.declared.header.Coupling.{Coupling}
-use Rattle.codec.specs.declared.header.Coupling.TheVariants.{Uncoupled, Coupled}
 use Rattle.codec.specs.declared.operation.Dimension.{Dimension}
 use Rattle.codec.specs.declared.operation.Modifier as given
 use Rattle.codec.specs.declared.operation.Operation.{Operation}
 use Rattle.codec.specs.declared.operation.Operation.TheVariants as op
+use Rattle.codec.specs.declared.refusal.Refusal.{Refusal}
 use Rattle.codec.specs.declared.refusal.Refusal.TheVariants.{WrongState, TooMany, Misplaced, LowHigh, Product}
 use Rattle.engine.specs.Rules.{low_or_high, highs_of, product}
-use Rattle.engine.specs.Checks.{Check, ◌if◌, first_of}
+use Rattle.engine.specs.Checks.{Check, ◌if◌, first_of, Why}
 use Rattle.engine.specs.Registers.{is_configuring, is_open, shape_of, no_pattern, no_shape, fresh, moved_to, reg, put}
 use Rattle.engine.specs.declared.stream.Modifier.{Modifier}
 use Rattle.engine.specs.declared.stream.Shape.{Shape}
 use Rattle.engine.specs.declared.stream.Pattern.{Pattern}
-use Rattle.engine.specs.declared.check.Why.{Why}
-use Rattle.engine.specs.declared.check.Why.TheVariants.{Nothing, Because}
 use Rattle.engine.specs.declared.register.State.TheVariants.{Configuring}
 use Rattle.engine.specs.declared.register.Register.{Register}
 use Rattle.engine.specs.declared.register.Machine.{Machine}
@@ -46,14 +44,14 @@ modifier_checks target r =
     ∷ []
 
 -- "coupled dimension missing": the dimensions do not cover the coupling
-abbrev pub uncovered : Shape → Coupling → Bool
-uncovered s Uncoupled = false
-uncovered s (Coupled c) = nat_lt s.dims c
+abbrev pub uncovered : Shape → Option ℕ → Bool
+uncovered s None = false
+uncovered s (Some c) = nat_lt s.dims c
 
 -- the coupled dimension is there: so many dimensions cover the coupling
-abbrev pub Covers : ℕ → Coupling → Type 0
-Covers dims Uncoupled = Unit {0}
-Covers dims (Coupled c) = c ≤ dims
+abbrev pub Covers : ℕ → Option ℕ → Type 0
+Covers dims None = Unit {0}
+Covers dims (Some c) = c ≤ dims
 
 -- 5, then 7: "end with no dimension; coupled dimension missing", then 8, then 9
 abbrev pub end_checks : Register → List Check
@@ -172,8 +170,13 @@ applied (op.Run i n) r = r
 
 -- the new one if nothing is refused, else the old one
 abbrev pub unless_because : {A : Type 0} → Why → A → A → A
-unless_because Nothing new old = new
-unless_because (Because x) new old = old
+unless_because (Ok _) new old = new
+unless_because (Err x) new old = old
+
+-- the new one if nothing is refused, else the refusal
+abbrev pub or_refusal : {A : Type 0} → Why → A → Result A Refusal
+or_refusal (Ok _) new = Ok new
+or_refusal (Err x) new = Err x
 
 -- why an operation is refused, if it is: the first check on its register that applies
 unfoldable pub why_not : Operation → Machine → Why

@@ -3,11 +3,9 @@
 --   iterations          the iterations that loops begin, at all levels
 --   few, few-stops      there are at most as many elements, and stops, as the product over the highs
 --   iterations-few      at most that many iterations begin in each dimension
-use Rattle.std.specs.Prelude.{◌≡◌, ℕ, zero, suc, ◌+◌, ◌-◌, ◌*◌, ◌/◌, ◌<◌, ◌≤◌, max, List, [], ◌∷◌, map, length, slice_index_or, refl}
+use Rattle.std.specs.Prelude.{◌≡◌, ℕ, zero, suc, ◌+◌, ◌-◌, ◌*◌, ◌/◌, ◌<◌, ◌≤◌, max, List, [], ◌∷◌, map, length, slice_index_or, refl, Option, Some, None}
 use Rattle.std.proofs.Common.{sym, ◌∙◌, ap, subst, arith, mul-le-mul_right, le-div_iff_mul-le, mul_comm, one-mul, suc-mul, zero-mul, add-mul, mul_assoc, mul-one, zero-add, length-append}
 use Rattle.std.proofs.Math.Nat.{mul-div-le}
-use Rattle.codec.specs.declared.header.Coupling.{Coupling}
-use Rattle.codec.specs.declared.header.Coupling.TheVariants.{Uncoupled, Coupled}
 use Rattle.engine.specs.Configure.{Covers}
 use Rattle.engine.specs.Loops.{size_at, join, span, loops, elements}
 use Rattle.engine.specs.Chunks.{pass_stops, stops_in, stops}
@@ -146,9 +144,9 @@ pub few-stops : (s : Shape) → Covers s.dims s.coupling → length (stops s) �
 unfolding stops_in elements
 few-stops s h = go s.coupling h
   where
-    go : (k : Coupling) → Covers s.dims k → length (stops_in (size_at s) s.dims k) ≤ product (highs_of s)
-    go Uncoupled c = few s
-    go (Coupled c) p =
+    go : (k : Option ℕ) → Covers s.dims k → length (stops_in (size_at s) s.dims k) ≤ product (highs_of s)
+    go None c = few s
+    go (Some c) p =
         let q : ℕ = product (highs s c (s.dims - c)) in
         let os : List (List ℕ) = loops (size_at s) c (s.dims - c) [] in
         let e : c + (s.dims - c) ≡ s.dims = omega arith in

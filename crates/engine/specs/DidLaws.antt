@@ -2,7 +2,7 @@
 --
 --   did-effect          the effect is a completed calculation
 --   did-one, did-taken  a completed calculation is the effect, and moves what the effect moves
-use Rattle.std.specs.Prelude.{◌≡◌, ℕ, ◌+◌, ◌*◌, ◌/◌, ◌<◌, ◌≤◌, ◌⊎◌, List, [], ◌∷◌, map, length, take, drop, refl}
+use Rattle.std.specs.Prelude.{◌≡◌, ℕ, ◌+◌, ◌*◌, ◌/◌, ◌<◌, ◌≤◌, ◌⊎◌, List, [], ◌∷◌, map, length, take, drop, refl, Ok}
 use Rattle.std.proofs.Math.Path.{sym, ap, ap₂}
 use Rattle.std.proofs.Common.{◌∙◌, subst, inl, inr, ⊎_elim, arith, ext_get_or}
 use Rattle.std.proofs.Math.Decide.{ℕ_discrete}
@@ -21,7 +21,6 @@ use Rattle.engine.specs.EffectLaws.{effect-length, room}
 use Rattle.engine.specs.StreamLaws.{moved_in, load_moves, shut-idle}
 use Rattle.engine.specs.Histories.{Chunk, Gives, Becomes, Stores, Did}
 use Rattle.engine.specs.AfterLaws.{Went, next-chunk, next_one, given-plain, given-open, open-load, is-source, loaded, went-plain, went_store, went-load, went-source, went-other, memory_kept, memory-stored}
-use Rattle.engine.specs.declared.check.Why.TheVariants.{Nothing}
 use Rattle.engine.specs.declared.register.State.TheVariants.{Open}
 use Rattle.engine.specs.declared.register.Register.{Register}
 
@@ -39,7 +38,7 @@ module _ (vl : ℕ) (c : Calculation) (w : World) (g : AllGood vl w.machine) (nm
   inside : (i : ℕ) → i < 32 → i < length w.machine.registers
   inside i h = omega (arith, g.all)
 
-  module _ (e : refusal_of vl c w ≡ Nothing) where
+  module _ (e : refusal_of vl c w ≡ Ok tt) where
     -- the destination is plain or an open store
     sink : (i : ℕ) → i ≡ c.destination → Destination (at i)
     sink i p = subst (λ j. Destination (at j)) (sym p) ((calculates-clear vl c w).0 e).destination
@@ -166,7 +165,7 @@ module _ (vl : ℕ) (c : Calculation) (w : World) (g : AllGood vl w.machine) (nm
 
   module _ (v : World) (taken : ℕ → List (List ℕ)) (d : Did vl c w v taken) where
     -- a completed calculation is not refused
-    not-refused : refusal_of vl c w ≡ Nothing
+    not-refused : refusal_of vl c w ≡ Ok tt
     not-refused = (calculates-clear vl c w).1 d.calculates
 
     -- its lanes are the engine's

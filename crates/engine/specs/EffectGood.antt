@@ -3,7 +3,7 @@
 --   holding-good, read-good, written-good      a good register with other lanes; read; written
 --   outcome_fits                               the lanes that a destination takes
 --   effect-good                                all registers after a calculation
-use Rattle.std.specs.Prelude.{◌≡◌, ℕ, ◌+◌, ◌*◌, ◌<◌, ◌≤◌, Bool, true, false, cond, ◌||◌, List, ◌++◌, length, replicate, ◌==◌, refl}
+use Rattle.std.specs.Prelude.{◌≡◌, ℕ, ◌+◌, ◌*◌, ◌<◌, ◌≤◌, Bool, true, false, cond, ◌||◌, List, ◌++◌, length, replicate, ◌==◌, refl, Ok}
 use Rattle.std.proofs.Common.{sym, ◌∙◌, subst, arith, length-take, length-append, eqb-true}
 use Rattle.codec.specs.declared.operation.Task.{Task}
 use Rattle.codec.specs.declared.operation.Task.TheVariants.{Each, All}
@@ -18,7 +18,6 @@ use Rattle.engine.specs.CalculationLaws.{Named}
 use Rattle.engine.specs.EffectLaws.{effect-reg, effect-length, read-open, read-shut, written-open, written-shut, given-fits, results-length, room}
 use Rattle.engine.specs.Lanes.{outcome_count}
 use Rattle.engine.specs.LaneLaws.{width-range}
-use Rattle.engine.specs.declared.check.Why.TheVariants.{Nothing}
 use Rattle.engine.specs.declared.register.Register.{Register}
 
 -- packed lanes are 64 bytes
@@ -75,7 +74,7 @@ outcome_fits (Each action) vl n width l i h = h
 outcome_fits (All fold) vl n width l i h = omega (arith, width-range width i)
 
 -- all registers stay good
-pub effect-good : (vl : ℕ) (c : Calculation) (w : World) → 8 ≤ vl → AllGood vl w.machine → Named c → refusal_of vl c w ≡ Nothing → AllGood vl (effect vl c w).machine
+pub effect-good : (vl : ℕ) (c : Calculation) (w : World) → 8 ≤ vl → AllGood vl w.machine → Named c → refusal_of vl c w ≡ Ok tt → AllGood vl (effect vl c w).machine
 effect-good vl c w l g nm e = record { all = effect-length vl c w ∙ g.all; good = each }
   where
     a : Register

@@ -6,7 +6,7 @@
 --   length-lanes, given-fits                   so many lanes read; the lanes that a source gives fit the vector length
 --   counts_same, results-length                both sources give equally many; so many has the result
 --   open-store, room                           a store that is the destination has room for the result
-use Rattle.std.specs.Prelude.{◌≡◌, ℕ, zero, suc, ◌+◌, ◌*◌, ◌/◌, ◌<◌, ◌≤◌, Bool, true, false, cond, not, ◌&&◌, ◌||◌, List, [], ◌∷◌, map, length, set, ◌==◌, nat_lt, slice_index_or, slice_set, refl}
+use Rattle.std.specs.Prelude.{◌≡◌, ℕ, zero, suc, ◌+◌, ◌*◌, ◌/◌, ◌<◌, ◌≤◌, Bool, true, false, cond, not, ◌&&◌, ◌||◌, List, [], ◌∷◌, map, length, set, ◌==◌, nat_lt, slice_index_or, slice_set, refl, Ok}
 use Rattle.std.proofs.Common.{sym, ◌∙◌, ap, subst, arith, mul-le-mul_right, div-mul-le_self, length-set, get_or-set_same, get_or-set_other, eqb-true, ltb-false}
 use Rattle.std.proofs.lemmas.List.{length-map}
 use Rattle.std.proofs.lemmas.List.Edits.{sets}
@@ -23,7 +23,6 @@ use Rattle.engine.specs.Calculate.{World, given, results, refusal_of, read_from,
 use Rattle.engine.specs.Good.{Good}
 use Rattle.engine.specs.ComeLaws.{next-lanes}
 use Rattle.engine.specs.CalculationLaws.{checked}
-use Rattle.engine.specs.declared.check.Why.TheVariants.{Nothing}
 use Rattle.engine.specs.declared.stream.Pattern.{Pattern}
 use Rattle.engine.specs.declared.register.Register.{Register}
 use Rattle.engine.specs.declared.register.Machine.{Machine}
@@ -151,7 +150,7 @@ lanewise-length f (x ∷ xs) [] e = absurd (omega arith)
 lanewise-length f (x ∷ xs) (y ∷ ys) e = ap suc (lanewise-length f xs ys (omega arith))
 
 -- both sources give equally many lanes
-pub counts_same : (vl : ℕ) (c : Calculation) (w : World) → refusal_of vl c w ≡ Nothing
+pub counts_same : (vl : ℕ) (c : Calculation) (w : World) → refusal_of vl c w ≡ Ok tt
     → length (given vl w.memory (reg w.machine c.first)) ≡ length (given vl w.memory (reg w.machine c.second))
 counts_same vl c w e = eqb-true _ _ (not-false _ (or-false _ _ (checked vl c w e).counts).0)
 
@@ -161,7 +160,7 @@ outcome-length (Each action) n xs ys e = lanewise-length (lane action n) xs ys e
 outcome-length (All fold) n xs ys e = refl
 
 -- the result has as many
-pub results-length : (vl : ℕ) (c : Calculation) (w : World) → refusal_of vl c w ≡ Nothing
+pub results-length : (vl : ℕ) (c : Calculation) (w : World) → refusal_of vl c w ≡ Ok tt
     → length (results vl c w) ≡ outcome_count c.task (length (given vl w.memory (reg w.machine c.first)))
 unfolding results
 results-length vl c w e =
@@ -182,7 +181,7 @@ store-room vl n m i d e k o =
     ltb-false (length (next_chunk vl d)) i (and-false (open_store d) (nat_lt (length (next_chunk vl d)) i) s.1 (open-store d k o))
 
 -- the next chunk of a store that is the destination has room for the result
-pub room : (vl : ℕ) (c : Calculation) (w : World) → refusal_of vl c w ≡ Nothing → is_open (reg w.machine c.destination).state ≡ true
+pub room : (vl : ℕ) (c : Calculation) (w : World) → refusal_of vl c w ≡ Ok tt → is_open (reg w.machine c.destination).state ≡ true
     → length (results vl c w) ≤ length (next_chunk vl (reg w.machine c.destination))
 room vl c w e o =
     let k = checked vl c w e in

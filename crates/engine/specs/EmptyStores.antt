@@ -4,7 +4,7 @@
 --   EmptyTakes, empty-takes-none   a completed calculation wrote no lane there, and went past that one stop
 --   empty-refuses                  one that would write a lane is not completed
 --   empty-lane-counts              it is refused with 13, if nothing before that refuses it
-use Rattle.std.specs.Prelude.{◌≡◌, ℕ, ◌+◌, ◌<◌, ◌≤◌, true, List, [], ◌∷◌, length, take, drop, refl}
+use Rattle.std.specs.Prelude.{◌≡◌, ℕ, ◌+◌, ◌<◌, ◌≤◌, true, List, [], ◌∷◌, length, take, drop, refl, Err}
 use Rattle.std.proofs.Common.{sym, ◌∙◌, ap, arith}
 use Rattle.codec.specs.TestLaws.{never}
 use Rattle.codec.specs.declared.header.Kind.TheVariants.{Store}
@@ -24,7 +24,6 @@ use Rattle.engine.specs.Reasons.{Wanted, AsSource}
 use Rattle.engine.specs.ReasonLaws.{calculation-refused}
 use Rattle.engine.specs.AfterLaws.{not-both}
 use Rattle.engine.specs.Histories.{Becomes, Stores, Did}
-use Rattle.engine.specs.declared.check.Why.TheVariants.{Because}
 use Rattle.engine.specs.declared.stream.Pattern.{Pattern}
 use Rattle.engine.specs.declared.register.State.TheVariants.{Open}
 use Rattle.engine.specs.declared.register.Register.{Register}
@@ -99,7 +98,7 @@ module _ (vl : ℕ) (c : Calculation) (w : World) (opened : (target_of c w).stat
     -- "Refusals: none new; 13 applies": it is refused with 13, if what is looked at before that is as wanted
     pub empty-lane-counts : Source (reg w.machine c.first) → Source (reg w.machine c.second) → (target_of c w).kind ≡ Store
         → (reg w.machine c.first).width ≡ (reg w.machine c.second).width → (reg w.machine c.first).width ≡ (target_of c w).width
-        → refusal_of vl c w ≡ Because LaneCounts
+        → refusal_of vl c w ≡ Err LaneCounts
     empty-lane-counts a b k p q =
         (calculation-refused vl c w LaneCounts).1
         (as_source _ LaneCounts a

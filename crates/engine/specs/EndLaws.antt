@@ -7,14 +7,14 @@
 --   enough                             more passes change nothing
 --   onward, onward-shut, onward-open, onward-refused, onward-pass   a run from here to its end; it stays the same after one more pass
 --   execute-ended, execute-open, execute-finishes, execute-good   a whole run: its equations without a bound
-use Rattle.std.specs.Prelude.{◌≡◌, ℕ, zero, suc, ◌<◌, ◌≤◌, Bool, true, false, cond, ◌&&◌, ◌||◌, List, length}
+use Rattle.std.specs.Prelude.{◌≡◌, ℕ, zero, suc, ◌<◌, ◌≤◌, Bool, true, false, cond, ◌&&◌, ◌||◌, List, length, Ok, Err}
 use Rattle.std.proofs.Math.Path.{refl, sym, ap}
 use Rattle.std.proofs.Common.{◌∙◌, subst, arith}
 use Rattle.codec.specs.TestLaws.{both, and_both}
 use Rattle.codec.specs.declared.refusal.Refusal.{Refusal}
 use Rattle.engine.specs.Registers.{is_open, is_finished, is_load, to_come, reg}
 use Rattle.engine.specs.Calculate.{World}
-use Rattle.engine.specs.Run.{Progress, begun, unless_refused, pass, counted, repeat, repeat_by, execute}
+use Rattle.engine.specs.Run.{Progress, begun, unless_refused, pass, counted, repeat, repeat_by, execute, Verdict, refusal_at}
 use Rattle.engine.specs.Sheets.{names, is_loop_register}
 use Rattle.engine.specs.Good.{AllGood}
 use Rattle.engine.specs.ComeLaws.{IsStream, open-some, none-shut, shut-finished}
@@ -22,8 +22,6 @@ use Rattle.engine.specs.HistoryLaws.{AllNamed, after-good, kind-kept, stream-kep
 use Rattle.engine.specs.RunLaws.{not-both, pass-whole, repeat-ran, ran-good}
 use Rattle.engine.specs.declared.register.Register.{Register}
 use Rattle.engine.specs.declared.run.Placed.{Placed}
-use Rattle.engine.specs.declared.run.Verdict.{Verdict}
-use Rattle.engine.specs.declared.run.Verdict.TheVariants.{Done, Refused}
 
 -- what holds of a run before each pass, and at its end: the body names the loop register as a source, which has a load stream, open or
 -- finished; all registers are good; nothing was refused
@@ -35,7 +33,7 @@ pub record Running (vl loop : ℕ) (body : List Placed) (g : Progress) : Type 0 
   pub good : AllGood vl g.world.machine
   pub load : is_load (reg g.world.machine loop).kind ≡ true
   pub stream : IsStream (reg g.world.machine loop)
-  pub verdict : g.verdict ≡ Done
+  pub verdict : g.verdict ≡ Ok tt
 
 -- before the first pass, if 16 is not given
 pub running-begun : (vl loop : ℕ) (body : List Placed) (w : World) → 8 ≤ vl → loop < 32 → AllNamed body → AllGood vl w.machine
@@ -62,7 +60,7 @@ module _ (vl loop : ℕ) (body : List Placed) where
       ap (λ b. cond b (unless_refused (pass vl body g).verdict (pass vl body g) (repeat vl loop body n (counted (pass vl body g)))) g) e
 
   -- after a pass that is done it holds again
-  pub running-on : (g : Progress) → Running vl loop body g → (pass vl body g).verdict ≡ Done → Running vl loop body (counted (pass vl body g))
+  pub running-on : (g : Progress) → Running vl loop body g → (pass vl body g).verdict ≡ Ok tt → Running vl loop body (counted (pass vl body g))
   running-on g r e =
       let p = pass-whole vl body g r.verdict e in
       let h : loop < length g.world.machine.registers = omega (arith, r.below, r.good.all) in
@@ -78,7 +76,7 @@ module _ (vl loop : ℕ) (body : List Placed) where
       }
 
   -- and leaves fewer stops to come of the loop register's stream
-  pub pass-fewer : (g : Progress) → Running vl loop body g → is_open (reg g.world.machine loop).state ≡ true → (pass vl body g).verdict ≡ Done
+  pub pass-fewer : (g : Progress) → Running vl loop body g → is_open (reg g.world.machine loop).state ≡ true → (pass vl body g).verdict ≡ Ok tt
       → length (to_come (reg (pass vl body g).world.machine loop)) < length (to_come (reg g.world.machine loop))
   pass-fewer g r o e =
       let p = pass-whole vl body g r.verdict e in
@@ -91,7 +89,7 @@ module _ (vl loop : ℕ) (body : List Placed) where
 
   -- as many passes as there are stops to come are enough: if no calculation is refused, the stream is finished
   pub finishes : (n : ℕ) (g : Progress) → Running vl loop body g → length (to_come (reg g.world.machine loop)) ≤ n
-      → (repeat vl loop body n g).verdict ≡ Done → is_finished (reg (repeat vl loop body n g).world.machine loop).state ≡ true
+      → (repeat vl loop body n g).verdict ≡ Ok tt → is_finished (reg (repeat vl loop body n g).world.machine loop).state ≡ true
   unfolding repeat_by
   finishes zero g r h v = shut-finished (reg g.world.machine loop).state r.stream (none_open g r h)
   finishes (suc n) g r h v =
@@ -101,13 +99,13 @@ module _ (vl loop : ℕ) (body : List Placed) where
       q = pass vl body g
 
       go : (b : Bool) → is_open (reg g.world.machine loop).state ≡ b → (d : Verdict) → q.verdict ≡ d
-          → (cond b (unless_refused d q (repeat vl loop body n (counted q))) g).verdict ≡ Done
+          → (cond b (unless_refused d q (repeat vl loop body n (counted q))) g).verdict ≡ Ok tt
           → (Running vl loop body (counted q) → length (to_come (reg q.world.machine loop)) ≤ n
-          → (repeat vl loop body n (counted q)).verdict ≡ Done → is_finished (reg (repeat vl loop body n (counted q)).world.machine loop).state ≡ true)
+          → (repeat vl loop body n (counted q)).verdict ≡ Ok tt → is_finished (reg (repeat vl loop body n (counted q)).world.machine loop).state ≡ true)
           → is_finished (reg (cond b (unless_refused d q (repeat vl loop body n (counted q))) g).world.machine loop).state ≡ true
       go false o d e v ih = shut-finished (reg g.world.machine loop).state r.stream o
-      go true o (Refused x at) e v ih = not-both x at q.verdict v e
-      go true o Done e v ih = ih (running-on g r e) (omega (arith, pass-fewer g r o e)) v
+      go true o (Err x) e v ih = not-both x.refusal x.place q.verdict v e
+      go true o (Ok _) e v ih = ih (running-on g r e) (omega (arith, pass-fewer g r o e)) v
 
   -- more passes than there are stops to come change nothing
   pub enough : (n m : ℕ) (g : Progress) → Running vl loop body g → length (to_come (reg g.world.machine loop)) ≤ n
@@ -126,8 +124,8 @@ module _ (vl loop : ℕ) (body : List Placed) where
           → repeat vl loop body n (counted q) ≡ repeat vl loop body m (counted q))
           → cond b (unless_refused d q (repeat vl loop body n (counted q))) g ≡ cond b (unless_refused d q (repeat vl loop body m (counted q))) g
       go false o d e ih = refl
-      go true o (Refused x at) e ih = refl
-      go true o Done e ih = ih (running-on g r e) (omega (arith, pass-fewer g r o e)) (omega (arith, pass-fewer g r o e))
+      go true o (Err x) e ih = refl
+      go true o (Ok _) e ih = ih (running-on g r e) (omega (arith, pass-fewer g r o e)) (omega (arith, pass-fewer g r o e))
 
   -- a run from here to its end
   abbrev pub onward : Progress → Progress
@@ -147,8 +145,8 @@ module _ (vl loop : ℕ) (body : List Placed) where
 
       same : (n : ℕ) → length (to_come (reg g.world.machine loop)) ≡ suc n → (d : Verdict) → q.verdict ≡ d
           → unless_refused d q (repeat vl loop body n (counted q)) ≡ unless_refused d q (onward (counted q))
-      same n e (Refused x at) f = refl
-      same n e Done f = enough n (length (to_come (reg q.world.machine loop))) (counted q) (running-on g r f) (omega (arith, pass-fewer g r o f)) (omega arith)
+      same n e (Err x) f = refl
+      same n e (Ok _) f = enough n (length (to_come (reg q.world.machine loop))) (counted q) (running-on g r f) (omega (arith, pass-fewer g r o f)) (omega arith)
 
       go : (n : ℕ) → length (to_come (reg g.world.machine loop)) ≡ n → repeat vl loop body n g ≡ unless_refused q.verdict q (onward (counted q))
       go zero e = absurd (omega (arith, open-some vl (reg g.world.machine loop) (r.good.good loop r.below) o))
@@ -156,12 +154,12 @@ module _ (vl loop : ℕ) (body : List Placed) where
 
   -- it ends with a pass that is refused
   pub onward-refused : (g : Progress) → Running vl loop body g → is_open (reg g.world.machine loop).state ≡ true
-      → (x : Refusal) (at : ℕ) → (pass vl body g).verdict ≡ Refused x at → onward g ≡ pass vl body g
+      → (x : Refusal) (at : ℕ) → (pass vl body g).verdict ≡ refusal_at x at → onward g ≡ pass vl body g
   onward-refused g r o x at e = onward-open g r o ∙ ap (λ d. unless_refused d (pass vl body g) (onward (counted (pass vl body g)))) e
 
   -- it stays the same after one more pass that is done
   pub onward-pass : (g : Progress) → Running vl loop body g → is_open (reg g.world.machine loop).state ≡ true
-      → (pass vl body g).verdict ≡ Done → onward g ≡ onward (counted (pass vl body g))
+      → (pass vl body g).verdict ≡ Ok tt → onward g ≡ onward (counted (pass vl body g))
   onward-pass g r o e = onward-open g r o ∙ ap (λ d. unless_refused d (pass vl body g) (onward (counted (pass vl body g)))) e
 
   -- a run whose stream is not open does nothing
@@ -174,7 +172,7 @@ module _ (vl loop : ℕ) (body : List Placed) where
   execute-open w r o = onward-open (begun w) r o
 
   -- a run that is not refused ends with the loop register's stream finished
-  pub execute-finishes : (w : World) → Running vl loop body (begun w) → (execute vl loop body w).verdict ≡ Done
+  pub execute-finishes : (w : World) → Running vl loop body (begun w) → (execute vl loop body w).verdict ≡ Ok tt
       → is_finished (reg (execute vl loop body w).world.machine loop).state ≡ true
   execute-finishes w r v = finishes (length (to_come (reg w.machine loop))) (begun w) r (omega arith) v
 

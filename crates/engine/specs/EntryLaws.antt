@@ -5,7 +5,7 @@
 --   entries-calculations, entries-length, entries-world   its calculations, their number, the world after some
 --   entries-follow                      each goes on where the one before it ended
 --   Followed, followed                  and a history is that of its calculations
-use Rattle.std.specs.Prelude.{◌≡◌, ℕ, zero, suc, ◌%◌, ◌<◌, ◌≤◌, List, [], ◌∷◌, ◌++◌, map, length, get_or, take, slice_index_or}
+use Rattle.std.specs.Prelude.{◌≡◌, ℕ, zero, suc, ◌%◌, ◌<◌, ◌≤◌, List, [], ◌∷◌, ◌++◌, map, length, get_or, take, slice_index_or, Ok}
 use Rattle.std.proofs.Math.Path.{refl, sym}
 use Rattle.std.proofs.Common.{◌∙◌, ap, ap₂, subst, arith, mod-lt}
 use Rattle.std.proofs.lemmas.List.{length-map}
@@ -19,7 +19,6 @@ use Rattle.engine.specs.HistoryLaws.{AllNamed, Completed, after_all, moved_over}
 use Rattle.engine.specs.Histories.{Entry, Follow, world_at, moved_of, no_placed, in_turn}
 use Rattle.engine.specs.CalculatesLaws.{calculates-clear}
 use Rattle.engine.specs.DidLaws.{did-effect, did-taken, did-one}
-use Rattle.engine.specs.declared.check.Why.TheVariants.{Nothing}
 use Rattle.engine.specs.declared.run.Placed.{Placed}
 
 -- ---- calculations that name registers
@@ -109,7 +108,7 @@ module _ (vl : ℕ) (l : 8 ≤ vl) where
       on : (AllGood vl (effect vl c w).machine → Follow vl (effect vl c w) es v → Followed vl (effect vl c w) es v) → Followed vl w (e ∷ es) v
       on ih = record { completed = (k, q.completed); world = q.world; worlds = worlds; moved = moved }
         where
-          k : refusal_of vl c w ≡ Nothing
+          k : refusal_of vl c w ≡ Ok tt
           k = (calculates-clear vl c w).1 f.0.calculates
 
           d : e.after ≡ effect vl c w

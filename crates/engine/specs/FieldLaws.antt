@@ -4,17 +4,15 @@
 --   holds, alone-plain, holds_plain         the range of a number, as a test
 --   reads, Through                          numbers read one by one, each in its range; that all are there
 --   reads-fault, reads-through, reads-either, reads-gives   what they give: the refusal of the first fault, or what follows them
-use Rattle.std.specs.Prelude.{◌≡◌, ℕ, Bool, true, false, not, ◌&&◌, ◌||◌, ◌⊎◌, ◌↔◌, List, [], ◌∷◌, take, drop, ◌==◌, nat_le, nat_lt, slice_index, unsigned_abs, refl}
+use Rattle.std.specs.Prelude.{◌≡◌, ℕ, Bool, true, false, not, ◌&&◌, ◌||◌, ◌⊎◌, ◌↔◌, List, [], ◌∷◌, take, drop, ◌==◌, nat_le, nat_lt, slice_index, unsigned_abs, refl, Some, None}
 use Rattle.std.proofs.Common.{sym, ◌∙◌, ap, inl, inr, ⊎_elim, arith, eqb-true, eq-eqb, ltb-true, lt-ltb}
 use Rattle.codec.specs.TestLaws.{never, or-second}
 use Rattle.codec.specs.Refusals.{is-numbered}
-use Rattle.codec.specs.Numbers.{number_at, signed_of}
+use Rattle.codec.specs.Numbers.{number_at, signed_of, Number}
 use Rattle.codec.specs.NumberLaws.{AreBytes, number-below, number-written, number_read}
 use Rattle.codec.specs.StandingLaws.{stands-split}
 use Rattle.codec.specs.Operations.{field, is_register, is_reach, has_one_source, is_second}
 use Rattle.codec.specs.declared.number.Cursor.{Cursor}
-use Rattle.codec.specs.declared.number.Number.{Number}
-use Rattle.codec.specs.declared.number.Number.TheVariants.{Value, NoNumber}
 use Rattle.codec.specs.declared.refusal.Refusal.{Refusal}
 use Rattle.codec.specs.declared.refusal.Refusal.TheVariants.{BadNumber, OutOfRange}
 use Rattle.engine.specs.AllowedLaws.{fails, leb-plain, and-plain}
@@ -23,22 +21,22 @@ use Rattle.engine.specs.Promise1.{NumberAt, NoNumberAt, Range, OneSource, Holds,
 -- ---- numbers
 
 -- a number that stands there is read
-pub number-there : (s : List ℕ) (at n to : ℕ) → NumberAt s at n to → number_at s at ≡ Value n (record { at = to })
+pub number-there : (s : List ℕ) (at n to : ℕ) → NumberAt s at n to → number_at s at ≡ Some (n, record { at = to })
 number-there s at n to h =
     let q = stands-split h.stands in
-    rw q.1 at (number-written s (take at s) (drop to s) n h.small q.0) ∙ ap (λ k. Value n (record { at = k })) (sym h.stands.behind)
+    rw q.1 at (number-written s (take at s) (drop to s) n h.small q.0) ∙ ap (λ k. Some (n, record { at = k })) (sym h.stands.behind)
 
 -- one that is read stands there
-pub there-number : (s : List ℕ) (at n : ℕ) (c : Cursor) → AreBytes s → number_at s at ≡ Value n c → NumberAt s at n c.at
+pub there-number : (s : List ℕ) (at n : ℕ) (c : Cursor) → AreBytes s → number_at s at ≡ Some (n, c) → NumberAt s at n c.at
 there-number s at n c p e = record { small = number-below s at n c e; stands = number_read s at n c p e }
 
 -- none is read exactly where none stands
-pub no_number : (s : List ℕ) (at : ℕ) → AreBytes s → (number_at s at ≡ NoNumber) ↔ NoNumberAt s at
+pub no_number : (s : List ℕ) (at : ℕ) → AreBytes s → (number_at s at ≡ None) ↔ NoNumberAt s at
 no_number s at p = (λ e n to h. let z = number-there s at n to h in let y : ◌≡◌ {A = ℕ} 0 1 = cc in omega arith, go (number_at s at) refl)
   where
-    go : (r : Number) → number_at s at ≡ r → NoNumberAt s at → r ≡ NoNumber
-    go NoNumber e h = refl
-    go (Value n c) e h = absurd (h n c.at (there-number s at n c p e))
+    go : (r : Number) → number_at s at ≡ r → NoNumberAt s at → r ≡ None
+    go None e h = refl
+    go (Some (n, c)) e h = absurd (h n c.at (there-number s at n c p e))
 
 -- ---- ranges
 
@@ -134,8 +132,8 @@ reads-either s at before (f ∷ fs) p = go (number_at s at) refl (λ n to. reads
 
     go : (r : Number) → number_at s at ≡ r → ((n to : ℕ) → Rest n to)
         → ((x : Refusal) × NumbersFault s x at before (f ∷ fs)) ⊎ ((all : List ℕ) × (to : ℕ) × Through s at before (f ∷ fs) all to)
-    go NoNumber e ih = inl (BadNumber, NumberFault.unread refl ((no_number s at p).0 e))
-    go (Value n c) e ih = held n c.at (there-number s at n c p e) (holds f before n) refl (ih n c.at)
+    go None e ih = inl (BadNumber, NumberFault.unread refl ((no_number s at p).0 e))
+    go (Some (n, c)) e ih = held n c.at (there-number s at n c p e) (holds f before n) refl (ih n c.at)
 
 -- an answer is the refusal of a fault, or what follows them
 pub reads-gives : {A : Type 0} (refused : Refusal → A) (s : List ℕ) (p : AreBytes s) (end : List ℕ → ℕ → A) (a : A) (at : ℕ) (before : List ℕ) (fs : List Range)

@@ -5,7 +5,7 @@
 --   Flagged                 when a flag is set
 --   stops_of, elements_in     its stops; the elements among some of them
 --   AtMoment                a stream at a moment: what has moved, what is to come, what both questions are told
-use Rattle.std.specs.Prelude.{◌≡◌, ℕ, ◌-◌, ◌≤◌, cond, ◌↔◌, List, [], ◌∷◌, ◌++◌, map, length, drop, replicate, ◌==◌, slice_index_or}
+use Rattle.std.specs.Prelude.{◌≡◌, ℕ, ◌-◌, ◌≤◌, cond, ◌↔◌, List, [], ◌∷◌, ◌++◌, map, length, drop, replicate, ◌==◌, slice_index_or, Ok, true, false}
 use Rattle.codec.specs.Headers.{bytes_of}
 use Rattle.codec.specs.declared.amounts.Bytes.{Bytes}
 use Rattle.codec.specs.declared.header.Header.{Header}
@@ -18,7 +18,6 @@ use Rattle.engine.specs.Chunks.{stops, held_in}
 use Rattle.engine.specs.Addresses.{no_bytes, no_elements}
 use Rattle.engine.specs.Registers.{no_modifier, reg}
 use Rattle.engine.specs.Questions.{ask_flag, ask_end}
-use Rattle.engine.specs.declared.check.Told.TheVariants.{Yes, No}
 use Rattle.engine.specs.declared.stream.Modifier.{Modifier}
 use Rattle.engine.specs.declared.stream.Pattern.{Pattern}
 use Rattle.engine.specs.declared.register.State.TheVariants.{Open, Finished}
@@ -142,9 +141,9 @@ pub record AtMoment (t : Stream) (past : List (List ℕ)) (m : Machine) (i : ℕ
   pub going_on : ¬ (to_come ≡ []) → (reg m i).state ≡ Open
   pub finished : to_come ≡ [] → (reg m i).state ≡ Finished
   -- both questions
-  pub end-yes : (ask_end m i ≡ Yes) ↔ (past ≡ stops_of t)
-  pub end-no : (ask_end m i ≡ No) ↔ (¬ (past ≡ stops_of t))
+  pub end-yes : (ask_end m i ≡ Ok true) ↔ (past ≡ stops_of t)
+  pub end-no : (ask_end m i ≡ Ok false) ↔ (¬ (past ≡ stops_of t))
   pub flag-yes : (d : ℕ) → 1 ≤ d → d ≤ length t.dimensions
-      → (ask_flag m i d ≡ Yes) ↔ Flagged (stops_of t) (length past) d
+      → (ask_flag m i d ≡ Ok true) ↔ Flagged (stops_of t) (length past) d
   pub flag-no : (d : ℕ) → 1 ≤ d → d ≤ length t.dimensions
-      → (ask_flag m i d ≡ No) ↔ (¬ Flagged (stops_of t) (length past) d)
+      → (ask_flag m i d ≡ Ok false) ↔ (¬ Flagged (stops_of t) (length past) d)

@@ -5,7 +5,7 @@
 --   leads-bytes                  their bytes
 --   offers-accepts               an operation that is not refused is accepted
 --   DoneInTurn, leads-done         they are done in turn; their register has what they give, every other what it had
-use Rattle.std.specs.Prelude.{◌≡◌, ℕ, ◌+◌, ◌<◌, ◌≢◌, List, [], ◌∷◌, ◌++◌, length, refl}
+use Rattle.std.specs.Prelude.{◌≡◌, ℕ, ◌+◌, ◌<◌, ◌≢◌, List, [], ◌∷◌, ◌++◌, length, refl, Ok}
 use Rattle.std.proofs.Common.{sym, ◌∙◌, subst, arith, length-set}
 use Rattle.codec.specs.NumberLaws.{Stands}
 use Rattle.codec.specs.StandingLaws.{stands-front, stands-back}
@@ -23,7 +23,6 @@ use Rattle.engine.specs.GivenLaws.{Has, after-has, other-given}
 use Rattle.engine.specs.Offered.{checks_given, offered}
 use Rattle.engine.specs.ReadingLaws.{in-range}
 use Rattle.engine.specs.Promise1.{Configures, OperationInRange, after, Turns}
-use Rattle.engine.specs.declared.check.Why.TheVariants.{Nothing}
 use Rattle.engine.specs.declared.register.Machine.{Machine}
 
 -- an operation of register i that is in range and not refused, after what was given for the register
@@ -31,7 +30,7 @@ pub record Offers (i : ℕ) (g : Given) (o : Operation) : Type 0 where
   pub register : register_of o ≡ i
   pub configures : Configures o
   pub range : OperationInRange o
-  pub clear : first_of (checks_given o g) ≡ Nothing
+  pub clear : first_of (checks_given o g) ≡ Ok tt
 
 -- operations of register i that lead from g to h
 unfoldable pub Leads : ℕ → Given → List Operation → Given → Type 0

@@ -9,7 +9,7 @@
 --   in-machine, put_same, put_other, put-good   a register put back
 --   configured-put, configured-by, configured-own, configured-other, configured-good   the machine after an operation
 --   width-most            what the code takes for granted
-use Rattle.std.specs.Prelude.{◌≡◌, ℕ, zero, suc, ◌+◌, ◌^◌, ◌<◌, ◌≤◌, Bool, true, false, cond, ◌≢◌, List, [], ◌∷◌, length, replicate, ◌==◌, nat_le, nat_lt, slice_index_or, slice_set, unsigned_abs, refl}
+use Rattle.std.specs.Prelude.{◌≡◌, ℕ, zero, suc, ◌+◌, ◌^◌, ◌<◌, ◌≤◌, Bool, true, false, cond, ◌≢◌, List, [], ◌∷◌, length, replicate, ◌==◌, nat_le, nat_lt, slice_index_or, slice_set, unsigned_abs, refl, Ok, Err, Result, Option, None}
 use Rattle.std.proofs.Common.{sym, ◌∙◌, ap, subst, ⊎_elim, arith, length-set, get_or-set_same, get_or-set_other, pow_mono, pow_pos, leb-true, leb-false, ltb-true, ltb-false}
 use mathlib.Core.List.Memᴰ
 use mathlib.Core.List.{Memᴰ}
@@ -25,8 +25,6 @@ use Rattle.codec.specs.declared.amounts.Bytes.{Bytes}
 use Rattle.codec.specs.declared.header.Header.{Header}
 use Rattle.codec.specs.declared.header.Width.{Width}
 use Rattle.codec.specs.declared.header.Width.TheVariants.{B, H, W, D}
-use Rattle.codec.specs.declared.header.Coupling.{Coupling}
-use Rattle.codec.specs.declared.header.Coupling.TheVariants.{Uncoupled}
 use Rattle.codec.specs.declared.operation.Dimension.{Dimension}
 use Rattle.codec.specs.declared.operation.Modifier as given
 use Rattle.codec.specs.declared.operation.Operation.{Operation}
@@ -35,16 +33,14 @@ use Rattle.codec.specs.declared.refusal.Refusal.{Refusal}
 use Rattle.engine.specs.Chunks.{stops}
 use Rattle.engine.specs.Rules.{highs_of, product}
 use Rattle.engine.specs.Addresses.{no_bytes, no_elements}
-use Rattle.engine.specs.Checks.{Check, ◌if◌, first_of}
+use Rattle.engine.specs.Checks.{Check, ◌if◌, first_of, Why}
 use Rattle.engine.specs.Registers.{is_configuring, is_open, is_finished, no_modifier, no_shape, no_pattern, fresh, no_register, shape_of, moved_to, fresh_machine, reg, put}
-use Rattle.engine.specs.Configure.{dimension_checks, modifier_checks, uncovered, end_checks, opened, patterned, dimensioned, owned, modified, ended, register_of, checks_for, applied, unless_because, why_not, configured}
+use Rattle.engine.specs.Configure.{dimension_checks, modifier_checks, uncovered, end_checks, opened, patterned, dimensioned, owned, modified, ended, register_of, checks_for, applied, unless_because, why_not, configured, or_refusal}
 use Rattle.engine.specs.Good.{RangedModifier, Ranged, RangedPattern, Accepted, IsWidth, Standing, Good, AllGood}
 use Rattle.engine.specs.IndexLaws.{index-length}
 use Rattle.engine.specs.declared.stream.Modifier.{Modifier}
 use Rattle.engine.specs.declared.stream.Shape.{Shape}
 use Rattle.engine.specs.declared.stream.Pattern.{Pattern}
-use Rattle.engine.specs.declared.check.Why.{Why}
-use Rattle.engine.specs.declared.check.Why.TheVariants.{Nothing, Because}
 use Rattle.engine.specs.declared.register.State.{State}
 use Rattle.engine.specs.declared.register.State.TheVariants.{Plain, Configuring, Open, Finished}
 use Rattle.engine.specs.declared.register.Register.{Register}
@@ -53,25 +49,25 @@ use Rattle.engine.specs.declared.register.Machine.{Machine}
 -- ---- checks
 
 -- a list of checks gives none: its first does not apply, and the others give none
-pub next : (x : Refusal) (b : Bool) (cs : List Check) → first_of (x if b ∷ cs) ≡ Nothing → (b ≡ false) × (first_of cs ≡ Nothing)
+pub next : (x : Refusal) (b : Bool) (cs : List Check) → first_of (x if b ∷ cs) ≡ Ok tt → (b ≡ false) × (first_of cs ≡ Ok tt)
 unfolding first_of
 next x true cs e = absurd (let z : ◌≡◌ {A = ℕ} 0 1 = cc in omega arith)
 next x false cs e = (refl, e)
 
 -- and the reverse
-pub more : (x : Refusal) (b : Bool) (cs : List Check) → b ≡ false → first_of cs ≡ Nothing → first_of (x if b ∷ cs) ≡ Nothing
+pub more : (x : Refusal) (b : Bool) (cs : List Check) → b ≡ false → first_of cs ≡ Ok tt → first_of (x if b ∷ cs) ≡ Ok tt
 unfolding first_of
 more x b cs p e = rw p e
 
 -- a list of checks gives none: no check of it applies
-pub passed : (cs : List Check) → first_of cs ≡ Nothing → (c : Check) → Memᴰ c cs → c.applies ≡ false
+pub passed : (cs : List Check) → first_of cs ≡ Ok tt → (c : Check) → Memᴰ c cs → c.applies ≡ false
 passed [] e c m = absurd (Memᴰ.not-nil m)
 passed (b ∷ cs) e c m =
     let n = next b.refusal b.applies cs e in
     ⊎_elim (λ q. ap (λ d. d.applies) q ∙ n.0) (λ q. passed cs n.1 c q) (Memᴰ.cases_cons m)
 
 -- and the reverse
-pub clear : (cs : List Check) → ((c : Check) → Memᴰ c cs → c.applies ≡ false) → first_of cs ≡ Nothing
+pub clear : (cs : List Check) → ((c : Check) → Memᴰ c cs → c.applies ≡ false) → first_of cs ≡ Ok tt
 unfolding first_of
 clear [] h = refl
 clear (b ∷ cs) h = more b.refusal b.applies cs (h b (Memᴰ.head refl)) (clear cs (λ c m. h c (Memᴰ.tail m)))
@@ -85,7 +81,7 @@ all_same (suc n) zero a = refl
 all_same (suc n) (suc d) a = all_same n d a
 
 -- a shape with no descriptors yet is in range
-bare-shape : (coupling : Coupling) → Ranged (record { dims = 0; sizes = no_shape.sizes; mods = 0; modifiers = no_shape.modifiers; coupling = coupling })
+bare-shape : (coupling : Option ℕ) → Ranged (record { dims = 0; sizes = no_shape.sizes; mods = 0; modifiers = no_shape.modifiers; coupling = coupling })
 bare-shape coupling = record {
   dims = omega arith;
   mods = omega arith;
@@ -96,7 +92,7 @@ bare-shape coupling = record {
 }
 
 -- a pattern with no descriptors yet and a base in range is in range
-bare : (coupling : Coupling) (base : Bytes) → coupling_in_range coupling ≡ true → unsigned_abs base.0 ≤ 1048576
+bare : (coupling : Option ℕ) (base : Bytes) → coupling_in_range coupling ≡ true → unsigned_abs base.0 ≤ 1048576
     → RangedPattern (record {
       shape = record { dims = 0; sizes = no_shape.sizes; mods = 0; modifiers = no_shape.modifiers; coupling = coupling };
       base = base;
@@ -119,7 +115,7 @@ fresh-good vl = record {
   width = (0, omega arith, refl);
   lanes = refl;
   valid = omega arith;
-  pattern = bare Uncoupled no_bytes refl (omega arith);
+  pattern = bare None no_bytes refl (omega arith);
   indices = refl;
   unmoved = λ e. refl;
   opened = λ e. never e;
@@ -207,14 +203,14 @@ dimensioned-ranged d p h e q =
     }
 
 -- what a dimension that is not refused finds
-pub dimension-passed : (r : Register) → first_of (dimension_checks r) ≡ Nothing → (is_configuring r.state ≡ true) × ((shape_of r).dims < 7)
+pub dimension-passed : (r : Register) → first_of (dimension_checks r) ≡ Ok tt → (is_configuring r.state ≡ true) × ((shape_of r).dims < 7)
 dimension-passed r w =
     let a = next _ _ _ w in
     let b = next _ _ _ a.1 in
     (not-false (is_configuring r.state) a.0, leb-false 7 (shape_of r).dims b.0)
 
 -- after a dimension that is not refused
-pub dimensioned-good : (vl : ℕ) (d : Dimension) (r : Register) → Good vl r → operation_in_range (op.Dimension d) ≡ true → first_of (dimension_checks r) ≡ Nothing
+pub dimensioned-good : (vl : ℕ) (d : Dimension) (r : Register) → Good vl r → operation_in_range (op.Dimension d) ≡ true → first_of (dimension_checks r) ≡ Ok tt
     → Good vl (patterned (dimensioned d r.pattern) r)
 unfolding operation_in_range
 dimensioned-good vl d r g e w =
@@ -262,7 +258,7 @@ unfolding operation_in_range
 target-most m e = let r = modifier-range m e in omega (arith, r.1)
 
 -- what a modifier that is not refused finds
-pub modifier-passed : (target : ℕ) (r : Register) → first_of (modifier_checks target r) ≡ Nothing
+pub modifier-passed : (target : ℕ) (r : Register) → first_of (modifier_checks target r) ≡ Ok tt
     → (is_configuring r.state ≡ true) × ((shape_of r).mods < 8) × (target + 1 < (shape_of r).dims)
 modifier-passed target r w =
     let a = next _ _ _ w in
@@ -271,7 +267,7 @@ modifier-passed target r w =
     (not-false (is_configuring r.state) a.0, leb-false 8 (shape_of r).mods b.0, leb-false (shape_of r).dims (target + 1) c.0)
 
 -- after a modifier that is not refused
-pub modified-good : (vl : ℕ) (m : given.Modifier) (r : Register) → Good vl r → operation_in_range (op.Modifier m) ≡ true → first_of (modifier_checks m.target r) ≡ Nothing
+pub modified-good : (vl : ℕ) (m : given.Modifier) (r : Register) → Good vl r → operation_in_range (op.Modifier m) ≡ true → first_of (modifier_checks m.target r) ≡ Ok tt
     → Good vl (patterned (modified m r.pattern) r)
 unfolding operation_in_range
 modified-good vl m r g e w =
@@ -310,7 +306,7 @@ moved-good vl r g a n h =
     }
 
 -- a shape that end does not refuse
-pub end-accepted : (r : Register) → Ranged (shape_of r) → coupling_in_range (shape_of r).coupling ≡ true → first_of (end_checks r) ≡ Nothing → Accepted (shape_of r)
+pub end-accepted : (r : Register) → Ranged (shape_of r) → coupling_in_range (shape_of r).coupling ≡ true → first_of (end_checks r) ≡ Ok tt → Accepted (shape_of r)
 end-accepted r h k w =
     let s : Shape = shape_of r in
     let a = next _ _ _ w in
@@ -332,11 +328,11 @@ end-accepted r h k w =
     some (suc n) f = omega arith
 
 -- after end that is not refused
-pub ended-good : (vl : ℕ) (r : Register) → Good vl r → first_of (end_checks r) ≡ Nothing → Good vl (ended r)
+pub ended-good : (vl : ℕ) (r : Register) → Good vl r → first_of (end_checks r) ≡ Ok tt → Good vl (ended r)
 ended-good vl r g w = moved-good vl r g (end-accepted r g.pattern.shape g.pattern.coupled w) 0 (omega arith)
 
 -- after any operation that is not refused
-pub applied-good : (vl : ℕ) (o : Operation) (r : Register) → Good vl r → operation_in_range o ≡ true → first_of (checks_for o r) ≡ Nothing → Good vl (applied o r)
+pub applied-good : (vl : ℕ) (o : Operation) (r : Register) → Good vl r → operation_in_range o ≡ true → first_of (checks_for o r) ≡ Ok tt → Good vl (applied o r)
 applied-good vl (op.Open h b) r g e w = opened-good vl h b e
 applied-good vl (op.Dimension d) r g e w = dimensioned-good vl d r g e w
 applied-good vl (op.Modifier m) r g e w = modified-good vl m r g e w
@@ -376,17 +372,29 @@ unfolding configured
 configured-put o m = go (why_not o m)
   where
     go : (w : Why) → unless_because w (put m (register_of o) (applied o (reg m (register_of o)))) m ≡ put m (register_of o) (unless_because w (applied o (reg m (register_of o))) (reg m (register_of o)))
-    go Nothing = refl
-    go (Because x) = ap (λ l. record { registers = l }) (sym (set-get_or m.registers (register_of o) no_register))
+    go (Ok _) = refl
+    go (Err x) = ap (λ l. record { registers = l }) (sym (set-get_or m.registers (register_of o) no_register))
 
--- so does code that finds the register, and puts what it made of it back
-pub configured-by : (o : Operation) (m : Machine) (i : ℕ) (w : Why) (r : Register) → i ≡ register_of o → w ≡ first_of (checks_for o (reg m i))
-    → r ≡ unless_because w (applied o (reg m i)) (reg m i) → (w ≡ why_not o m) × (put m i r ≡ configured o m)
-unfolding why_not
-configured-by o m i w r e p q =
-    let why : w ≡ why_not o m = p ∙ ap (λ k. first_of (checks_for o (reg m k))) e in
-    let own : r ≡ unless_because (why_not o m) (applied o (reg m (register_of o))) (reg m (register_of o)) = q ∙ (λ j. unless_because (why j) (applied o (reg m (e j))) (reg m (e j))) in
-    (why, (λ j. put m (e j) (own j)) ∙ sym (configured-put o m))
+-- what code that finds the register was told of the operation there: why it is refused, or what to put back
+pub configured-by : (o : Operation) (m : Machine) (i : ℕ) (a : Result Register Refusal) → i ≡ register_of o → a ≡ or_refusal (first_of (checks_for o (reg m i))) (applied o (reg m i))
+    → ((x : Refusal) → a ≡ Err x → why_not o m ≡ Err x) × ((r : Register) → a ≡ Ok r → (why_not o m ≡ Ok tt) × (put m i r ≡ configured o m))
+unfolding why_not configured
+configured-by o m i a e p = go (first_of (checks_for o (reg m (register_of o)))) refl
+  where
+    told : a ≡ or_refusal (first_of (checks_for o (reg m (register_of o)))) (applied o (reg m (register_of o)))
+    told = p ∙ (λ j. or_refusal (first_of (checks_for o (reg m (e j)))) (applied o (reg m (e j))))
+
+    go : (w : Why) → first_of (checks_for o (reg m (register_of o))) ≡ w
+        → ((x : Refusal) → a ≡ Err x → first_of (checks_for o (reg m (register_of o))) ≡ Err x)
+        × ((r : Register) → a ≡ Ok r → (first_of (checks_for o (reg m (register_of o))) ≡ Ok tt) × (put m i r ≡ unless_because (first_of (checks_for o (reg m (register_of o)))) (put m (register_of o) (applied o (reg m (register_of o)))) m))
+    go (Ok u) f =
+        let k : a ≡ Ok (applied o (reg m (register_of o))) = rw f at told in (
+          λ x g. absurd cc,
+          λ r g.
+              let own : r ≡ applied o (reg m (register_of o)) = cc in
+              (f, (λ j. put m (e j) (own j)) ∙ sym (ap (λ w. unless_because w (put m (register_of o) (applied o (reg m (register_of o)))) m) f)),
+        )
+    go (Err y) f = let k : a ≡ Err y = rw f at told in (λ x g. let same : y ≡ x = cc in f ∙ ap Err same, λ r g. absurd cc)
 
 -- its own register afterwards
 pub configured-own : (o : Operation) (m : Machine) → register_of o < length m.registers
@@ -407,8 +415,8 @@ unfolding configured why_not
 configured-good vl o m a e = go (first_of (checks_for o (reg m (register_of o)))) refl
   where
     go : (w : Why) → first_of (checks_for o (reg m (register_of o))) ≡ w → AllGood vl (unless_because w (put m (register_of o) (applied o (reg m (register_of o)))) m)
-    go Nothing w = put-good vl m (register_of o) (applied o (reg m (register_of o))) a (applied-good vl o (reg m (register_of o)) (a.good (register_of o) (in-machine o e)) e w)
-    go (Because x) w = a
+    go (Ok _) w = put-good vl m (register_of o) (applied o (reg m (register_of o))) a (applied-good vl o (reg m (register_of o)) (a.good (register_of o) (in-machine o e)) e w)
+    go (Err x) w = a
 
 -- ---- what the code takes for granted
 

@@ -6,8 +6,7 @@
 --   Entry, Follow            a history: each calculation goes on where the one before it ended
 --   world_at, moved_of         the world at a moment of it; the stops that a register went past in it
 --   in_turn, Ran              the history of a run
-use Rattle.std.specs.Prelude.{◌≡◌, ℕ, zero, suc, ◌+◌, ◌-◌, ◌*◌, ◌/◌, ◌%◌, ◌<◌, ◌≤◌, true, false, ◌⊎◌, List, [], ◌∷◌, ◌++◌, map, length, take, drop, slice_index_or}
-use Rattle.codec.specs.declared.header.Coupling.TheVariants.{Coupled}
+use Rattle.std.specs.Prelude.{◌≡◌, ℕ, zero, suc, ◌+◌, ◌-◌, ◌*◌, ◌/◌, ◌%◌, ◌<◌, ◌≤◌, true, false, ◌⊎◌, List, [], ◌∷◌, ◌++◌, map, length, take, drop, slice_index_or, Ok, Some}
 use Rattle.codec.specs.declared.operation.Action.TheVariants.{Copy}
 use Rattle.codec.specs.declared.operation.Task.TheVariants.{Each}
 use Rattle.codec.specs.declared.operation.Calculation.{Calculation}
@@ -17,19 +16,18 @@ use Rattle.engine.specs.Memory.{fetch, stored, contents, holding}
 use Rattle.engine.specs.Lanes.{outcome}
 use Rattle.engine.specs.Registers.{shape_of, moved_to, reg}
 use Rattle.engine.specs.Calculate.{World}
-use Rattle.engine.specs.Run.{Progress}
+use Rattle.engine.specs.Run.{Progress, refusal_at}
 use Rattle.engine.specs.Allowed.{Calculates}
 use Rattle.engine.specs.Reasons.{CalculationRefused}
 use Rattle.engine.specs.declared.stream.Shape.{Shape}
 use Rattle.engine.specs.declared.register.State.TheVariants.{Plain, Open, Finished}
 use Rattle.engine.specs.declared.register.Register.{Register}
 use Rattle.engine.specs.declared.run.Placed.{Placed}
-use Rattle.engine.specs.declared.run.Verdict.TheVariants.{Done, Refused}
 
 -- the stop at position n is not of the pass of the coupled dimension that the one before it is of
 pub record PassEnds (s : Shape) (n : ℕ) : Type 0 where
   pub dimension : ℕ
-  pub coupled : s.coupling ≡ Coupled dimension
+  pub coupled : s.coupling ≡ Some dimension
   pub other : ¬ (drop dimension (slice_index_or (stops s) (n - 1) []) ≡ drop dimension (slice_index_or (stops s) n []))
 
 -- "the next elements of the loop, as many as there are lanes, fewer at the end of the stream or, if coupled, at the end of the current
@@ -42,7 +40,7 @@ pub record Chunk (s : Shape) (lanes n : ℕ) (vs : List (List ℕ)) : Type 0 whe
   pub some : 1 ≤ length vs
   pub most : length vs ≤ lanes
   -- if coupled they are of one pass of dimension c (counted from 1): no index above it differs
-  pub one-pass : (c : ℕ) → s.coupling ≡ Coupled c → (k : ℕ) → suc k < length vs → drop c (slice_index_or vs k []) ≡ drop c (slice_index_or vs (suc k) [])
+  pub one-pass : (c : ℕ) → s.coupling ≡ Some c → (k : ℕ) → suc k < length vs → drop c (slice_index_or vs k []) ≡ drop c (slice_index_or vs (suc k) [])
   -- fewer only at the end of the stream, or of the pass
   pub full : length vs < lanes → (n + length vs ≡ length (stops s)) ⊎ PassEnds s (n + length vs)
 
@@ -151,9 +149,9 @@ pub record Ran (vl loop : ℕ) (body : List Placed) (w : World) (r : Progress) :
   -- each pass began with the loop register's stream open
   pub began : (k : ℕ) → k < length entries → k % length body ≡ 0 → (reg (world_at w entries k).machine loop).state ≡ Open
   -- done: after whole passes, once the stream is finished
-  pub done : r.verdict ≡ Done → (length entries % length body ≡ 0) × ((reg r.world.machine loop).state ≡ Finished)
+  pub done : r.verdict ≡ Ok tt → (length entries % length body ≡ 0) × ((reg r.world.machine loop).state ≡ Finished)
   -- refused: the next calculation in turn is, for the first thing wanted of it that is lacking, at its place; a pass had begun
-  pub refused : (x : Refusal) (at : ℕ) → r.verdict ≡ Refused x at
+  pub refused : (x : Refusal) (at : ℕ) → r.verdict ≡ refusal_at x at
       → CalculationRefused vl (in_turn body (length entries)).calculation r.world x
       × (at ≡ (in_turn body (length entries)).place)
       × (length entries % length body ≡ 0 → (reg r.world.machine loop).state ≡ Open)

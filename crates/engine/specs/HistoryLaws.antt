@@ -8,7 +8,7 @@
 --   pattern-kept, kind-kept, width-kept, stream-kept, moved_all   what a stream keeps, and how many stops it has gone past
 --   moves, fewer                       if they name an open load, they have moved it; so fewer of it are to come
 --   times, named-append, named-times, named-take   a body several times
-use Rattle.std.specs.Prelude.{◌≡◌, ℕ, zero, suc, ◌+◌, ◌<◌, ◌≤◌, Bool, true, false, ◌||◌, List, [], ◌∷◌, ◌++◌, length, take, ◌==◌, refl}
+use Rattle.std.specs.Prelude.{◌≡◌, ℕ, zero, suc, ◌+◌, ◌<◌, ◌≤◌, Bool, true, false, ◌||◌, List, [], ◌∷◌, ◌++◌, length, take, ◌==◌, refl, Ok}
 use Rattle.std.proofs.Common.{sym, ◌∙◌, ap, subst, append_assoc, arith, length-append}
 use Rattle.codec.specs.TestLaws.{never}
 use Rattle.engine.specs.Registers.{open_load, to_come, reg}
@@ -20,7 +20,6 @@ use Rattle.engine.specs.CalculationLaws.{Named}
 use Rattle.engine.specs.EffectLaws.{effect-length}
 use Rattle.engine.specs.EffectGood.{effect-good}
 use Rattle.engine.specs.StreamLaws.{moved_in, once, pattern-stays, kind-stays, width-stays, stream-stays, stream-was, moved-counts, read_some, unnamed}
-use Rattle.engine.specs.declared.check.Why.TheVariants.{Nothing}
 use Rattle.engine.specs.declared.run.Placed.{Placed}
 
 -- each calculation names registers
@@ -31,7 +30,7 @@ AllNamed (c ∷ cs) = Named c.calculation × AllNamed cs
 -- each is not refused in the world that those before it left
 unfoldable pub Completed : ℕ → World → List Placed → Type 0
 Completed vl w [] = Unit {0}
-Completed vl w (c ∷ cs) = (refusal_of vl c.calculation w ≡ Nothing) × Completed vl (effect vl c.calculation w) cs
+Completed vl w (c ∷ cs) = (refusal_of vl c.calculation w ≡ Ok tt) × Completed vl (effect vl c.calculation w) cs
 
 -- the world after them
 unfoldable pub after_all : ℕ → World → List Placed → World

@@ -3,7 +3,7 @@
 --   streaming-open, streaming-shut    open while a stop is left
 --   unhindered, one-done, together    one calculation: not refused; memory after it; all three go past the chunk together
 --   StepsDone, in_step                the whole run: done, and memory after it is that of its chunks
-use Rattle.std.specs.Prelude.{◌≡◌, ℕ, zero, suc, ◌+◌, ◌*◌, ◌/◌, ◌<◌, ◌≤◌, Bool, true, false, cond, not, ◌&&◌, ◌||◌, ◌⊎◌, List, [], ◌∷◌, ◌++◌, map, length, get_or, take, drop, ℤ, pos, negsuc, ◌==◌, slice_index_or}
+use Rattle.std.specs.Prelude.{◌≡◌, ℕ, zero, suc, ◌+◌, ◌*◌, ◌/◌, ◌<◌, ◌≤◌, Bool, true, false, cond, not, ◌&&◌, ◌||◌, ◌⊎◌, List, [], ◌∷◌, ◌++◌, map, length, get_or, take, drop, ℤ, pos, negsuc, ◌==◌, slice_index_or, Ok}
 use Rattle.std.proofs.Math.Path.{refl, ap, ap₂}
 use Rattle.std.proofs.Common.{sym, ◌∙◌, subst, inl, inr, arith, length-append, length-take, length-drop, take-append-drop, get_or-append-add, leb→le, eq-eqb, ne_eqb, le-leb, le-ltb}
 use Rattle.std.proofs.Math.Decide.{dec_lt}
@@ -22,7 +22,7 @@ use Rattle.engine.specs.Memory.{fetch, holding}
 use Rattle.engine.specs.Lanes.{lane, lanewise, outcome_count, wants_lanes}
 use Rattle.engine.specs.Registers.{is_configuring, is_open, is_finished, open_load, open_store, state_after, shape_of, next_stops, next_chunk, stops_for, moved_by, to_come, reg}
 use Rattle.engine.specs.Calculate.{World, given, results, all_inside, outside, refusal_of, read_from, written_to, memory_after, effect}
-use Rattle.engine.specs.Run.{Progress, begun, unless_refused, pass, pass_by, counted, repeat, repeat_by, execute}
+use Rattle.engine.specs.Run.{Progress, begun, unless_refused, pass, pass_by, counted, repeat, repeat_by, execute, Verdict}
 use Rattle.engine.specs.ChunkLaws.{groups-join, chunk-some, chunk-stops}
 use Rattle.engine.specs.StopLaws.{among-append, stops-elements}
 use Rattle.engine.specs.Good.{Good}
@@ -32,14 +32,11 @@ use Rattle.engine.specs.EffectLaws.{effect-reg, read-open, written-open, results
 use Rattle.engine.specs.EffectGood.{effect-good}
 use Rattle.engine.specs.Allowed.{Lies, AllLie}
 use Rattle.engine.specs.InStep.{Three, OneShape, Streaming, InStep, AllInside, StreamChunks, chunk_done, chunks_done}
-use Rattle.engine.specs.declared.check.Why.TheVariants.{Nothing}
 use Rattle.engine.specs.declared.stream.Shape.{Shape}
 use Rattle.engine.specs.declared.stream.Pattern.{Pattern}
 use Rattle.engine.specs.declared.register.State.TheVariants.{Open, Finished}
 use Rattle.engine.specs.declared.register.Register.{Register}
 use Rattle.engine.specs.declared.run.Placed.{Placed}
-use Rattle.engine.specs.declared.run.Verdict.{Verdict}
-use Rattle.engine.specs.declared.run.Verdict.TheVariants.{Done}
 
 -- ---- one register
 
@@ -218,7 +215,7 @@ module _ (vl : ℕ) (least : 8 ≤ vl) (b : Three) (s : Shape) (one : OneShape b
       by false = refl
 
   -- it is not refused
-  pub unhindered : AllInside b (length w.memory) now → refusal_of vl c w ≡ Nothing
+  pub unhindered : AllInside b (length w.memory) now → refusal_of vl c w ≡ Ok tt
   unhindered l =
       let m : take (outcome_count c.task (length (given vl w.memory ra))) (next_chunk vl rd) ≡ now = rw (t.task, lanes-a, next-d) (take-length now) in
       let fits : outcome_count c.task (length (given vl w.memory ra)) ≤ length (next_chunk vl rd) = rw t.task (omega (arith, ap length next-d, lanes-a)) in
@@ -253,7 +250,7 @@ module _ (vl : ℕ) (least : 8 ≤ vl) (b : Three) (s : Shape) (one : OneShape b
   one-done = let o : is_open rd.state ≡ true = ap is_open open-d in rw (o, t.destination.pattern, t.destination.wide, next-d, results-are)
 
   -- all three go past it together
-  pub together : refusal_of vl c w ≡ Nothing → InStep vl b c (n + length past) (effect vl c w)
+  pub together : refusal_of vl c w ≡ Ok tt → InStep vl b c (n + length past) (effect vl c w)
   together e = record {
     named = t.named;
     task = t.task;
@@ -332,7 +329,7 @@ chunk_inside s lanes n len width p cov l k h =
 pub record StepsDone (vl : ℕ) (b : Three) (s : Shape) (n : ℕ) (memory : List ℕ) (r : Progress) : Type 0 where
   pub chunks : List (List (List ℕ))
   pub are : StreamChunks s (vl / b.width) n chunks
-  pub done : r.verdict ≡ Done
+  pub done : r.verdict ≡ Ok tt
   pub memory-after : r.world.memory ≡ chunks_done b memory (map (held_in s) chunks)
 
 -- memory after the first chunk, then after those behind it
@@ -364,13 +361,13 @@ module _ (vl : ℕ) (b : Three) (s : Shape) (one : OneShape b s) (cov : Covers s
       go (inr e) = rw e (ap is_open (streaming-shut _ _ _ n _ t.second (rw one.second h)))
 
   -- a pass of the one calculation
-  passed-one : (g : Progress) → refusal_of vl c.calculation g.world ≡ Nothing
-      → ((pass vl (c ∷ []) g).verdict ≡ Done) × ((pass vl (c ∷ []) g).world ≡ effect vl c.calculation g.world)
+  passed-one : (g : Progress) → refusal_of vl c.calculation g.world ≡ Ok tt
+      → ((pass vl (c ∷ []) g).verdict ≡ Ok tt) × ((pass vl (c ∷ []) g).world ≡ effect vl c.calculation g.world)
   unfolding pass_by
   passed-one g e = rw e (refl, refl)
 
   -- the passes that are left
-  steps : (f n : ℕ) (g : Progress) → g.verdict ≡ Done → Steps n g.world → n ≤ length (stops s) → length (stops s) ≤ f + n
+  steps : (f n : ℕ) (g : Progress) → g.verdict ≡ Ok tt → Steps n g.world → n ≤ length (stops s) → length (stops s) ≤ f + n
       → AllInside b (length g.world.memory) (elements s) → StepsDone vl b s n g.world.memory (repeat vl loop (c ∷ []) f g)
   unfolding repeat_by StreamChunks chunks_done
   steps zero n g v t m k l = record { chunks = []; are = omega arith; done = v; memory-after = refl }
@@ -389,7 +386,7 @@ module _ (vl : ℕ) (b : Three) (s : Shape) (one : OneShape b s) (cov : Covers s
       Goal o d = StepsDone vl b s n w.memory (cond o (unless_refused d q (repeat vl loop (c ∷ []) f (counted q))) g)
 
       go : Dec (n < length (stops s))
-          → ((i : ℕ) (h : Progress) → h.verdict ≡ Done → Steps i h.world → i ≤ length (stops s) → length (stops s) ≤ f + i
+          → ((i : ℕ) (h : Progress) → h.verdict ≡ Ok tt → Steps i h.world → i ≤ length (stops s) → length (stops s) ≤ f + i
           → AllInside b (length h.world.memory) (elements s) → StepsDone vl b s i h.world.memory (repeat vl loop (c ∷ []) f h))
           → Goal (is_open (reg w.machine loop).state) q.verdict
       go (no p) rest =
@@ -398,7 +395,7 @@ module _ (vl : ℕ) (b : Three) (s : Shape) (one : OneShape b s) (cov : Covers s
           let some : 0 < length u = chunk-some (stream_groups s) (vl / b.width) n lanes (rw (groups-join (size_at s) s.dims s.coupling) h) in
           let most : n + length u ≤ length (stops s) =
           omega (arith, ap length (chunk-stops s (vl / b.width) n), length-take (length u) (drop n (stops s)), length-drop n (stops s)) in
-          let free : refusal_of vl c.calculation w ≡ Nothing =
+          let free : refusal_of vl c.calculation w ≡ Ok tt =
           unhindered vl least b s one c.calculation n w t h
           (record {
             first = chunk_inside s (vl / b.width) n (length w.memory) b.width b.first cov l.first;

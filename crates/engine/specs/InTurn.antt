@@ -4,9 +4,8 @@
 --   turn_at             how many chunks a stream has given before a moment: the number of the row whose turn it is
 --   RowSum             a calculation 8 over the stream
 --   InTurn             of every run
-use Rattle.std.specs.Prelude.{◌≡◌, ℕ, suc, ◌/◌, ◌<◌, ◌≤◌, List, [], ◌∷◌, length, get_or, take, slice_index_or}
+use Rattle.std.specs.Prelude.{◌≡◌, ℕ, suc, ◌/◌, ◌<◌, ◌≤◌, List, [], ◌∷◌, length, get_or, take, slice_index_or, Some}
 use Rattle.codec.specs.declared.header.Kind.TheVariants.{Load}
-use Rattle.codec.specs.declared.header.Coupling.TheVariants.{Coupled}
 use Rattle.codec.specs.declared.operation.Fold.TheVariants.{Sum}
 use Rattle.codec.specs.declared.operation.Task.TheVariants.{All}
 use Rattle.codec.specs.declared.operation.Operation.{Operation}
@@ -44,7 +43,7 @@ pub record RowSum (vl : ℕ) (t : Stream) (w : World) (es : List Entry) (i c k :
 pub record InTurn (vl : ℕ) (s memory : List ℕ) : Type 0 where
   pub runs : Fits vl (length memory) → (os : List Operation) (at : ℕ) (m : Machine) (loop : ℕ) (cs : List Placed) → DoneBefore s os at m
       → RunAt s at loop cs (length s) → LoopsOn loop cs m → (q : Streams vl os m memory loop cs (run vl s memory))
-      → (i : ℕ) → i < 32 → (t : Stream) → given_for i os ≡ ended t → t.header.kind ≡ Load → (c : ℕ) → t.header.coupling ≡ Coupled c
+      → (i : ℕ) → i < 32 → (t : Stream) → given_for i os ≡ ended t → t.header.kind ≡ Load → (c : ℕ) → t.header.coupling ≡ Some c
       → Each [] (λ g. length g ≤ vl / stream_width t) (passes_of t c)
       → (k : ℕ) → k < length q.ran.entries → (calculation_of (entry_at q.ran.entries k)).task ≡ All Sum
       → (calculation_of (entry_at q.ran.entries k)).first ≡ i → RowSum vl t (world m memory) q.ran.entries i c k

@@ -1,17 +1,19 @@
 -- The registers of a machine laid out for a run.
 --
 --   no_running, beginning         past the 32; a register at the start of a run
+--   pattern_at                    the descriptors of register i
 --   view_at, registers_in          the register that the i-th running one stands for; all of them
 --   LaidOut                      arrays of 32, in which every open stream remembers its next stop
-use Rattle.std.specs.Prelude.{◌≡◌, ℕ, zero, suc, ◌<◌, List, [], ◌∷◌, length, ℤ, slice_index, slice_index_or}
+use Rattle.std.specs.Prelude.{◌≡◌, ℕ, zero, suc, ◌<◌, List, [], ◌∷◌, length, slice_index, slice_index_or}
 use Rattle.codec.specs.declared.header.Kind.TheVariants.{Load}
 use Rattle.engine.specs.Addresses.{no_bytes}
-use Rattle.engine.specs.Rows.{pattern_at}
+use Rattle.engine.specs.Registers.{no_register}
 use Rattle.engine.specs.Runnings.{view_of, Remembers}
 use Rattle.engine.specs.declared.place.Spot.{Spot}
 use Rattle.engine.specs.declared.register.State.TheVariants.{Plain}
 use Rattle.engine.specs.declared.register.Register.{Register}
 use Rattle.engine.specs.declared.running.Running.{Running}
+use Rattle.engine.specs.declared.stream.Pattern.{Pattern}
 
 -- what `get_or` gives past the 32 running registers
 abbrev pub no_running : Running
@@ -32,10 +34,14 @@ beginning r s = record {
   step = s.step;
 }
 
-module _ (shapes : List (List ℕ)) (places : List (List ℤ)) (lanes indices : List (List ℕ)) (all : List Running) where
+-- the descriptors of register i, which do not change in a run
+abbrev pub pattern_at : List Register → ℕ → Pattern
+pattern_at kept i = (slice_index_or kept i no_register).pattern
+
+module _ (kept : List Register) (lanes indices : List (List ℕ)) (all : List Running) where
   -- the register that the i-th running one stands for
   abbrev pub view_at : ℕ → Register
-  view_at i = view_of (pattern_at shapes places i) (slice_index_or lanes i []) (slice_index_or indices i []) (slice_index_or all i no_running)
+  view_at i = view_of (pattern_at kept i) (slice_index_or lanes i []) (slice_index_or indices i []) (slice_index_or all i no_running)
 
   -- the next n of them, from the i-th on
   unfoldable pub views_from : ℕ → ℕ → List Register
@@ -48,9 +54,8 @@ module _ (shapes : List (List ℕ)) (places : List (List ℤ)) (lanes indices : 
 
   -- arrays of 32, in which every open stream remembers its next stop
   pub record LaidOut : Type 0 where
-    pub shapes32 : length shapes ≡ 32
-    pub places32 : length places ≡ 32
+    pub registers32 : length kept ≡ 32
     pub lanes32 : length lanes ≡ 32
     pub indices32 : length indices ≡ 32
     pub all32 : length all ≡ 32
-    pub remembers : (i : ℕ) → i < 32 → Remembers (pattern_at shapes places i) (slice_index_or indices i []) (slice_index_or all i no_running)
+    pub remembers : (i : ℕ) → i < 32 → Remembers (pattern_at kept i) (slice_index_or indices i []) (slice_index_or all i no_running)

@@ -103,8 +103,6 @@ pub mod RaggedSamples
 pub mod Outlines
 pub mod OutlineLaws
 pub mod AnswerLaws
-pub mod Rows
-pub mod RowLaws
 pub mod Stretches
 pub mod Runnings
 pub mod Calculations

@@ -6,9 +6,8 @@
 --   listed               passes in order, each cut
 --   chunks_of             the chunks that a stream gave over a history
 --   Listed, Listing      they are the front of the list, and all of it once the end of stream shows; of every run
-use Rattle.std.specs.Prelude.{◌≡◌, ℕ, zero, suc, ◌-◌, ◌/◌, ◌<◌, ◌≤◌, ◌↔◌, List, [], ◌∷◌, ◌++◌, map, length, take, drop}
+use Rattle.std.specs.Prelude.{◌≡◌, ℕ, zero, suc, ◌-◌, ◌/◌, ◌<◌, ◌≤◌, ◌↔◌, List, [], ◌∷◌, ◌++◌, map, length, take, drop, Ok, true, Some, None}
 use Rattle.codec.specs.declared.header.Kind.TheVariants.{Load}
-use Rattle.codec.specs.declared.header.Coupling.TheVariants.{Uncoupled, Coupled}
 use Rattle.codec.specs.declared.operation.Operation.{Operation}
 use Rattle.engine.specs.Loops.{size_at, join}
 use Rattle.engine.specs.Members.{Each}
@@ -21,7 +20,6 @@ use Rattle.engine.specs.Given.{Stream, elements_in, pattern_of, ended, given_for
 use Rattle.engine.specs.Promise1.{DoneBefore, RunAt, LoopsOn, world}
 use Rattle.engine.specs.Promise2.{Streams}
 use Rattle.engine.specs.StreamSums.{stream_width, all_of}
-use Rattle.engine.specs.declared.check.Told.TheVariants.{Yes}
 use Rattle.engine.specs.declared.register.Machine.{Machine}
 use Rattle.engine.specs.declared.run.Placed.{Placed}
 
@@ -49,16 +47,16 @@ pub record Listed (lanes : ℕ) (t : Stream) (es : List Entry) (m : Machine) (i 
   pub to_come : List (List (List ℕ))
   -- 02, 3/14: "A pass of the coupled dimension that the outer loops reach and that holds no element must give one chunk with no valid lanes":
   -- the elements of the chunks that it gave, then those to come, are the passes of that dimension, each cut by the lanes
-  pub coupled : (c : ℕ) → t.header.coupling ≡ Coupled c
+  pub coupled : (c : ℕ) → t.header.coupling ≡ Some c
       → map (elements_in t) (chunks_of es i) ++ to_come ≡ listed lanes (passes (size_at (pattern_of t).shape) c (length t.dimensions))
   -- "row n of the sums" is "row n of the image": where no pass is longer than the lanes, chunk n is pass n
-  pub row-by-row : (c : ℕ) → t.header.coupling ≡ Coupled c
+  pub row-by-row : (c : ℕ) → t.header.coupling ≡ Some c
       → Each [] (λ g. length g ≤ lanes) (passes (size_at (pattern_of t).shape) c (length t.dimensions))
       → map (elements_in t) (chunks_of es i) ++ to_come ≡ passes (size_at (pattern_of t).shape) c (length t.dimensions)
   -- 01: "Passes with no element give no chunk": uncoupled, they are the elements cut by the lanes; no chunk if there is none
-  pub uncoupled : t.header.coupling ≡ Uncoupled → map (elements_in t) (chunks_of es i) ++ to_come ≡ listed lanes (with_elements (all_of t ∷ []))
+  pub uncoupled : t.header.coupling ≡ None → map (elements_in t) (chunks_of es i) ++ to_come ≡ listed lanes (with_elements (all_of t ∷ []))
   -- "in demand 2 the end of such a stream shows after its last coupled pass": none is to come exactly if the end of stream shows
-  pub end-yes : (ask_end m i ≡ Yes) ↔ (to_come ≡ [])
+  pub end-yes : (ask_end m i ≡ Ok true) ↔ (to_come ≡ [])
 
 -- for a vector length, a sheet and a memory: of every load stream that the sheet ended, at every moment of its run
 pub record Listing (vl : ℕ) (s memory : List ℕ) : Type 0 where

@@ -8,7 +8,7 @@
 --   rows_in, held-listed       the elements of the chunks are those of the passes, each cut
 --   stream-listed, listed-coupled, listed-uncoupled   the chunks of a stream
 --   listed-chunks             there are such chunks
-use Rattle.std.specs.Prelude.{◌≡◌, ℕ, zero, suc, ◌+◌, ◌-◌, ◌/◌, ◌<◌, ◌≤◌, min, true, List, [], ◌∷◌, ◌++◌, map, length, take, drop, replicate}
+use Rattle.std.specs.Prelude.{◌≡◌, ℕ, zero, suc, ◌+◌, ◌-◌, ◌/◌, ◌<◌, ◌≤◌, min, true, List, [], ◌∷◌, ◌++◌, map, length, take, drop, replicate, Option, Some, None}
 use Rattle.std.proofs.Math.Path.{refl, sym, ap, ap₂, subst}
 use Rattle.std.proofs.Common.{◌∙◌, drop-drop, get_or-take, get_or-drop}
 use mathlib.Core.List.{append-nil, map-append}
@@ -18,8 +18,6 @@ use Rattle.std.proofs.Math.Decide.{dec_lt}
 use Rattle.std.proofs.Math.ListN.{length-append, length-take, length-drop, take-append-drop}
 use Rattle.std.proofs.Math.Seq.{take_all, take-nil, length-take-le}
 use borrow.Author.Tests.{lt-ltb, le-ltb}
-use Rattle.codec.specs.declared.header.Coupling.{Coupling}
-use Rattle.codec.specs.declared.header.Coupling.TheVariants.{Uncoupled, Coupled}
 use Rattle.engine.specs.Loops.{size_at, join, loops, elements}
 use Rattle.engine.specs.Members.{Each, each-one}
 use Rattle.engine.specs.Chunks.{passes, pass_stops, stops, is_element, elements_among, held_in, with_elements, groups, left_after, next_group, chunk_of, stream_groups, chunk}
@@ -186,9 +184,9 @@ listed-whole lanes (g ∷ gs) p h =
 -- ---- the elements of the chunks
 
 -- what a stream's chunks are cut from: uncoupled, its elements, if it has any; coupled, the passes of that dimension
-unfoldable pub rows_in : (ℕ → List ℕ → ℕ) → ℕ → Coupling → List (List (List ℕ))
-rows_in size D Uncoupled = with_elements (loops size 0 D [] ∷ [])
-rows_in size D (Coupled c) = passes size c D
+unfoldable pub rows_in : (ℕ → List ℕ → ℕ) → ℕ → Option ℕ → List (List (List ℕ))
+rows_in size D None = with_elements (loops size 0 D [] ∷ [])
+rows_in size D (Some c) = passes size c D
 
 module _ (size : ℕ → List ℕ → ℕ) (lanes : ℕ) (some : 1 ≤ lanes) where
   -- pieces of elements are elements
@@ -242,14 +240,14 @@ module _ (size : ℕ → List ℕ → ℕ) (lanes : ℕ) (some : 1 ≤ lanes) wh
       map-append (elements_among size) (cut_pass lanes g) (listed lanes gs) ∙ ap₂ ◌++◌ (held_all g (h 0 (omega arith))) (held-groups gs (λ j p. h (suc j) (omega arith)))
 
   -- the elements of the chunks are those of the passes, each cut
-  pub held-listed : (D : ℕ) (k : Coupling) → map (elements_among size) (listed lanes (groups size D k)) ≡ listed lanes (rows_in size D k)
+  pub held-listed : (D : ℕ) (k : Option ℕ) → map (elements_among size) (listed lanes (groups size D k)) ≡ listed lanes (rows_in size D k)
   unfolding groups rows_in passes with_elements
-  held-listed D Uncoupled = held-groups (with_elements (loops size 0 D [] ∷ [])) (only (loops size 0 D []) (loops-elements size D))
+  held-listed D None = held-groups (with_elements (loops size 0 D [] ∷ [])) (only (loops size 0 D []) (loops-elements size D))
     where
       only : (g : List (List ℕ)) → Each [] (λ v. is_element size 0 v ≡ true) g → Each [] (Each [] (λ v. is_element size 0 v ≡ true)) (with_elements (g ∷ []))
       only [] h = λ j p. absurd (omega arith)
       only (v ∷ g) h = each-one [] (Each [] (λ u. is_element size 0 u ≡ true)) (v ∷ g) h
-  held-listed D (Coupled c) =
+  held-listed D (Some c) =
       ap (λ gs. map (elements_among size) (listed lanes gs)) (groups-coupled size D c) ∙ held-passes c (loops size c (D - c) []) (outer-reached size c (D - c))
 
 -- ---- a stream
@@ -272,13 +270,13 @@ module _ (s : Shape) (lanes : ℕ) (some : 1 ≤ lanes) where
 
   -- 02, 3/14: "A pass of the coupled dimension that the outer loops reach and that holds no element must give one chunk with no valid lanes":
   -- they are the passes of the coupled dimension in order, each cut by the lanes
-  pub listed-coupled : (c : ℕ) → s.coupling ≡ Coupled c → (cs : List (List (List ℕ))) → StreamChunks s lanes 0 cs
+  pub listed-coupled : (c : ℕ) → s.coupling ≡ Some c → (cs : List (List (List ℕ))) → StreamChunks s lanes 0 cs
       → map (held_in s) cs ≡ listed lanes (passes (size_at s) c s.dims)
   unfolding rows_in
   listed-coupled c e cs h = stream-listed cs h ∙ ap (λ k. listed lanes (rows_in (size_at s) s.dims k)) e
 
   -- uncoupled, they are the elements cut by the lanes; there is no chunk if there is no element
-  pub listed-uncoupled : s.coupling ≡ Uncoupled → (cs : List (List (List ℕ))) → StreamChunks s lanes 0 cs
+  pub listed-uncoupled : s.coupling ≡ None → (cs : List (List (List ℕ))) → StreamChunks s lanes 0 cs
       → map (held_in s) cs ≡ listed lanes (with_elements (elements s ∷ []))
   unfolding rows_in elements
   listed-uncoupled e cs h = stream-listed cs h ∙ ap (λ k. listed lanes (rows_in (size_at s) s.dims k)) e

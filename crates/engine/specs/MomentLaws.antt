@@ -4,25 +4,24 @@
 --   end-told, flag-told              what both questions are told of a stream
 --   inside-most, inside-stream, inside-finished   how many stops it has gone past; open or finished; finished exactly if all
 --   inside-moment                    a stream that has gone past some of its stops, at that moment
-use Rattle.std.specs.Prelude.{◌≡◌, ℕ, zero, suc, ◌-◌, ◌<◌, ◌≤◌, Bool, true, false, cond, not, ◌||◌, ◌⊎◌, ◌↔◌, List, [], ◌++◌, length, drop, nat_le, slice_index_or, refl}
+use Rattle.std.specs.Prelude.{◌≡◌, ℕ, zero, suc, ◌-◌, ◌<◌, ◌≤◌, Bool, true, false, cond, not, ◌||◌, ◌⊎◌, ◌↔◌, List, [], ◌++◌, length, drop, nat_le, slice_index_or, refl, Ok, Result}
 use Rattle.std.proofs.Common.{sym, ◌∙◌, subst, inl, inr, ⊎_elim, append-nil, arith, length-append, length-drop, drop_of_length-le}
 use Rattle.std.proofs.Math.Path.{ap}
 use borrow.Author.Tests.{leb-true, le-leb, le-ltb, ne_eqb}
 use Rattle.codec.specs.TestLaws.{never}
+use Rattle.codec.specs.declared.refusal.Refusal.{Refusal}
 use Rattle.engine.specs.Configure.{Covers}
 use Rattle.engine.specs.Loops.{size_at}
 use Rattle.engine.specs.StopLaws.{among-append, stops-elements}
 use Rattle.engine.specs.Chunks.{stops, height, flag}
 use Rattle.engine.specs.FlagLaws.{flag-all, flag-set, flag-clear}
 use Rattle.engine.specs.Registers.{is_open, is_finished, shape_of, reg}
-use Rattle.engine.specs.Questions.{yes_or_no, unless, ask_flag, ask_end}
+use Rattle.engine.specs.Questions.{unless, ask_flag, ask_end}
 use Rattle.engine.specs.GoodLaws.{more}
 use Rattle.engine.specs.CalculationLaws.{nothing}
 use Rattle.engine.specs.ComeLaws.{IsStream, ended-stream}
 use Rattle.engine.specs.Given.{Stream, stops_of, elements_in, pattern_of, Flagged, last, differs, AtMoment}
 use Rattle.engine.specs.GivenLaws.{Bears, InRegister}
-use Rattle.engine.specs.declared.check.Told.{Told}
-use Rattle.engine.specs.declared.check.Told.TheVariants.{Yes, No}
 use Rattle.engine.specs.declared.stream.Shape.{Shape}
 use Rattle.engine.specs.declared.stream.Pattern.{Pattern}
 use Rattle.engine.specs.declared.register.State.TheVariants.{Open, Finished}
@@ -54,20 +53,20 @@ flagged s c (suc n) d h k =
 -- ---- questions
 
 -- a question that is told yes or no
-told : (b : Bool) (a : Told) (P : Type 0) → a ≡ yes_or_no b → (b ≡ true) ↔ P → ((a ≡ Yes) ↔ P) × ((a ≡ No) ↔ (¬ P))
+told : (b : Bool) (a : Result Bool Refusal) (P : Type 0) → a ≡ Ok b → (b ≡ true) ↔ P → ((a ≡ Ok true) ↔ P) × ((a ≡ Ok false) ↔ (¬ P))
 told true a P e f = ((λ q. f.0 refl, λ p. e), (λ q. absurd (let z : ◌≡◌ {A = ℕ} 0 1 = cc in omega arith), λ n. absurd (n (f.0 refl))))
 told false a P e f = ((λ q. absurd (let z : ◌≡◌ {A = ℕ} 0 1 = cc in omega arith), λ p. never (f.1 p)), (λ q p. never (f.1 p), λ n. e))
 
 module _ (m : Machine) (i : ℕ) (h : i < 32) (s : IsStream (reg m i)) where
   -- the question for the end of a stream is told whether it is finished
-  pub end-told : ask_end m i ≡ yes_or_no (is_finished (reg m i).state)
+  pub end-told : ask_end m i ≡ Ok (is_finished (reg m i).state)
   unfolding ask_end
   end-told =
       ap (λ y. unless y (is_finished (reg m i).state))
       (more _ _ _ (le-ltb 31 i (omega arith)) (more _ _ _ (ap not s) nothing))
 
   -- the question for a flag whether it is set
-  pub flag-told : (d : ℕ) → 1 ≤ d → d ≤ 7 → d ≤ (shape_of (reg m i)).dims → ask_flag m i d ≡ yes_or_no (flag (reg m i).height d)
+  pub flag-told : (d : ℕ) → 1 ≤ d → d ≤ 7 → d ≤ (shape_of (reg m i)).dims → ask_flag m i d ≡ Ok (flag (reg m i).height d)
   unfolding ask_flag
   flag-told d p q k =
       ap (λ y. unless y (flag (reg m i).height d))
@@ -146,7 +145,7 @@ inside-moment t so_far m i h s =
     }
   where
     flags : (d : ℕ) → 1 ≤ d → d ≤ length t.dimensions
-        → ((ask_flag m i d ≡ Yes) ↔ Flagged (stops_of t) (length so_far) d) × ((ask_flag m i d ≡ No) ↔ (¬ Flagged (stops_of t) (length so_far) d))
+        → ((ask_flag m i d ≡ Ok true) ↔ Flagged (stops_of t) (length so_far) d) × ((ask_flag m i d ≡ Ok false) ↔ (¬ Flagged (stops_of t) (length so_far) d))
     flags d p q =
         told (flag (reg m i).height d) (ask_flag m i d) (Flagged (stops_of t) (length so_far) d)
         (flag-told m i h (inside-stream t so_far (reg m i) s) d p (omega (arith, s.bears.most))

@@ -3,7 +3,7 @@
 --   inside-goes                      a stream goes on by a calculation that is not refused
 --   world-last                       the world after all of a history
 --   did-inside, follow-inside        a stream goes on by a completed calculation; at every moment of a history
-use Rattle.std.specs.Prelude.{◌≡◌, ℕ, zero, suc, ◌+◌, ◌<◌, ◌≤◌, true, List, [], ◌∷◌, ◌++◌, map, length, take, drop}
+use Rattle.std.specs.Prelude.{◌≡◌, ℕ, zero, suc, ◌+◌, ◌<◌, ◌≤◌, true, List, [], ◌∷◌, ◌++◌, map, length, take, drop, Ok}
 use Rattle.std.proofs.Common.{sym, ◌∙◌, ap, subst, append_assoc, append-nil, arith, length-append, take-append-drop, drop-drop, take-take, length-take-le}
 use Rattle.codec.specs.TestLaws.{never}
 use Rattle.codec.specs.declared.operation.Calculation.{Calculation}
@@ -23,7 +23,6 @@ use Rattle.engine.specs.Histories.{Did, Entry, Follow, world_at, moved_of}
 use Rattle.engine.specs.Given.{Stream, stops_of, pattern_of}
 use Rattle.engine.specs.GivenLaws.{Bears, InRegister}
 use Rattle.engine.specs.MomentLaws.{inside-stream}
-use Rattle.engine.specs.declared.check.Why.TheVariants.{Nothing}
 use Rattle.engine.specs.declared.register.Register.{Register}
 
 -- ---- a calculation
@@ -57,7 +56,7 @@ inside_on t so_far vs n r q s b k e =
 
 -- a stream goes on so by a calculation that is not refused
 pub inside-goes : (vl : ℕ) (c : Calculation) (w : World) (i : ℕ) (t : Stream) (so_far : List (List ℕ)) → 8 ≤ vl → i < length w.machine.registers
-    → refusal_of vl c w ≡ Nothing → Good vl (reg w.machine i) → InRegister t so_far (reg w.machine i)
+    → refusal_of vl c w ≡ Ok tt → Good vl (reg w.machine i) → InRegister t so_far (reg w.machine i)
     → InRegister t (so_far ++ moved_in vl c w i) (reg (effect vl c w).machine i)
 unfolding holding moved_by
 inside-goes vl c w i t so_far l h e g s =
@@ -96,7 +95,7 @@ pub did-inside : (vl : ℕ) (c : Calculation) (w v : World) (taken : ℕ → Lis
     → AllGood vl w.machine → Named c → Did vl c w v taken → i < 32 → InRegister t so_far (reg w.machine i)
     → AllGood vl v.machine × InRegister t (so_far ++ taken i) (reg v.machine i)
 did-inside vl c w v taken i t so_far l g nm d h s =
-    let e : refusal_of vl c w ≡ Nothing = (calculates-clear vl c w).1 d.calculates in
+    let e : refusal_of vl c w ≡ Ok tt = (calculates-clear vl c w).1 d.calculates in
     let x : AllGood vl (effect vl c w).machine × InRegister t (so_far ++ taken i) (reg (effect vl c w).machine i) = (
       effect-good vl c w l g nm e,
       subst (λ vs. InRegister t (so_far ++ vs) (reg (effect vl c w).machine i)) (sym (did-taken vl c w g nm l v taken d i h)) (inside-goes vl c w i t so_far l (omega (arith, g.all)) e (g.good i h) s),

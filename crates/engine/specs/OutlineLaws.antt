@@ -8,7 +8,7 @@
 --   element-stream, element-unended, element-moved   the same of a register: of a stream that was ended, of none, whatever has moved
 --   element-lane                     a lane of the next chunk is the element at the stop so many behind those gone past
 --   examples                         01's bench rows in outline
-use Rattle.std.specs.Prelude.{◌≡◌, ℕ, suc, ◌+◌, ◌-◌, ◌/◌, ◌<◌, ◌≤◌, true, false, not, ◌||◌, List, [], ◌∷◌, length, get_or, pos, slice_index_or, refl}
+use Rattle.std.specs.Prelude.{◌≡◌, ℕ, suc, ◌+◌, ◌-◌, ◌/◌, ◌<◌, ◌≤◌, true, false, not, ◌||◌, List, [], ◌∷◌, length, get_or, pos, slice_index_or, refl, None, Some}
 use Rattle.std.proofs.Common.{sym, ◌∙◌, ap, lt-ltb, le-ltb}
 use native.Mathlib.Omega.{arith}
 use Rattle.std.proofs.lemmas.List.{length-map}
@@ -35,8 +35,6 @@ use Rattle.engine.specs.Outlines.{address_at, extent_of, outline_of, located_in,
 use Rattle.engine.specs.declared.stream.Pattern.{Pattern}
 use Rattle.engine.specs.declared.register.Register.{Register}
 use Rattle.engine.specs.declared.outline.Extent.{Extent}
-use Rattle.engine.specs.declared.outline.Outline.TheVariants.{Unended, Stream}
-use Rattle.engine.specs.declared.outline.Located.TheVariants.{Nowhere, At}
 
 -- dimensions, modifiers, elements, first and last address
 abbrev pub extent : ℕ → ℕ → ℕ → Bytes → Bytes → Extent
@@ -71,27 +69,27 @@ module _ (p : Pattern) (width : ℕ) where
 
   -- the element at a stop
   pub located-some : (k : ℕ) → k < length (stops p.shape) → nothing_at p.shape k ≡ false
-      → located_in p width k ≡ At (record { 0 = address p width (slice_index_or (stops p.shape) k []) })
+      → located_in p width k ≡ Some (record { 0 = address p width (slice_index_or (stops p.shape) k []) })
   unfolding located_in
   located-some k h t = rw (lt-ltb k (length (stops p.shape)) h, t)
 
   -- none at a coupled pass that holds none
-  pub located-nothing : (k : ℕ) → k < length (stops p.shape) → nothing_at p.shape k ≡ true → located_in p width k ≡ Nowhere
+  pub located-nothing : (k : ℕ) → k < length (stops p.shape) → nothing_at p.shape k ≡ true → located_in p width k ≡ None
   unfolding located_in
   located-nothing k h t = rw (lt-ltb k (length (stops p.shape)) h, t)
 
   -- past the last there is none
-  pub located-none : (k : ℕ) → length (stops p.shape) ≤ k → located_in p width k ≡ Nowhere
+  pub located-none : (k : ℕ) → length (stops p.shape) ≤ k → located_in p width k ≡ None
   unfolding located_in
   located-none k h = rw (le-ltb k (length (stops p.shape)) h)
 
 -- of a stream that was ended
-pub outline-stream : (r : Register) → IsStream r → outline_of r ≡ Stream (extent_of r.pattern r.width)
+pub outline-stream : (r : Register) → IsStream r → outline_of r ≡ Some (extent_of r.pattern r.width)
 unfolding outline_of
 outline-stream r e = rw e
 
 -- of none
-pub outline-unended : (r : Register) → (is_open r.state || is_finished r.state) ≡ false → outline_of r ≡ Unended
+pub outline-unended : (r : Register) → (is_open r.state || is_finished r.state) ≡ false → outline_of r ≡ None
 unfolding outline_of
 outline-unended r e = rw e
 
@@ -107,7 +105,7 @@ module _ (n : ℕ) (r : Register) where
   element-stream e = rw e
 
   -- of none
-  pub element-unended : (is_open r.state || is_finished r.state) ≡ false → element_of r n ≡ Nowhere
+  pub element-unended : (is_open r.state || is_finished r.state) ≡ false → element_of r n ≡ None
   unfolding element_of
   element-unended e = rw e
 
@@ -118,21 +116,21 @@ element-moved k n r e = element-stream n (moved_by k r) (stream-moved k r) ∙ s
 
 -- a lane of an open stream's next chunk lies where the element does that stands at the stop so many behind those gone past
 pub element-lane : (vl k : ℕ) (r : Register) → 8 ≤ vl → Good vl r → is_open r.state ≡ true → k < length (next_chunk vl r)
-    → element_of r (r.moved + k) ≡ At (record { 0 = address r.pattern r.width (slice_index_or (next_chunk vl r) k []) })
+    → element_of r (r.moved + k) ≡ Some (record { 0 = address r.pattern r.width (slice_index_or (next_chunk vl r) k []) })
 unfolding nothing_at next_stops
 element-lane vl k r m g e h = go (next-is vl r m g e)
   where
     lane : get_or (next_chunk vl r) k [] ≡ slice_index_or (stops (shape_of r)) (r.moved + k) []
     lane = next-lane vl r m g e k h
 
-    go : Next vl r → element_of r (r.moved + k) ≡ At (record { 0 = address r.pattern r.width (slice_index_or (next_chunk vl r) k []) })
+    go : Next vl r → element_of r (r.moved + k) ≡ Some (record { 0 = address r.pattern r.width (slice_index_or (next_chunk vl r) k []) })
     go (holds t a) =
         let n : k < length (next_stops vl r) = omega (arith, ap length a) in
         let i = (chunk-kind (shape_of r) (vl / r.width) r.moved (lanes-some vl r.width m g.width) (g.opened e).1).0 t k n in
         let f : is_element (size_at (shape_of r)) 0 (slice_index_or (stops (shape_of r)) (r.moved + k) []) ≡ true = ap (is_element (size_at (shape_of r)) 0) (sym lane ∙ ap (λ l. get_or l k []) a) ∙ i in
         element-stream (r.moved + k) r (rw e)
         ∙ located-some r.pattern r.width (r.moved + k) (omega (arith, next-within vl r g e)) (ap not f)
-        ∙ ap (λ v. At (record { 0 = address r.pattern r.width v })) (sym lane)
+        ∙ ap (λ v. Some (record { 0 = address r.pattern r.width v })) (sym lane)
     go (nothing t a b) = absurd (omega (arith, ap length b))
 
 -- bytes, size 0 growing by 1 over four rows, coupled to 1: the first row holds no element
@@ -144,20 +142,20 @@ risen =
 -- configured, and register 3 has a stream without elements. The sixth element of the first lies at 18, the fifth of the second, its last,
 -- at 36. Where the first of four coupled rows holds none, the first stop has no element, the second has the first one, the seventh the last
 pub examples :
-    (outline_of (register 1 (prepared triangle)) ≡ Stream (extent 2 1 10 (record { 0 = pos 0 }) (record { 0 = pos 27 })))
-    × (outline_of (register 1 (prepared words)) ≡ Stream (extent 1 0 5 (record { 0 = pos 4 }) (record { 0 = pos 36 })))
-    × (outline_of (register 0 (prepared three)) ≡ Unended)
-    × (outline_of (register 2 (prepared three)) ≡ Unended)
-    × (outline_of (register 3 (prepared three)) ≡ Stream (extent 1 0 0 no_bytes no_bytes))
-    × (outline_of (register 32 (prepared three)) ≡ Unended)
-    × (element_of (register 1 (prepared triangle)) 5 ≡ At (record { 0 = pos 18 }))
-    × (element_of (register 1 (prepared words)) 4 ≡ At (record { 0 = pos 36 }))
-    × (element_of (register 1 (prepared words)) 5 ≡ Nowhere)
-    × (element_of (register 2 (prepared three)) 0 ≡ Nowhere)
-    × (element_of (register 1 (prepared risen)) 0 ≡ Nowhere)
-    × (element_of (register 1 (prepared risen)) 1 ≡ At (record { 0 = pos 8 }))
-    × (element_of (register 1 (prepared risen)) 6 ≡ At (record { 0 = pos 26 }))
-    × (element_of (register 1 (prepared risen)) 7 ≡ Nowhere)
+    (outline_of (register 1 (prepared triangle)) ≡ Some (extent 2 1 10 (record { 0 = pos 0 }) (record { 0 = pos 27 })))
+    × (outline_of (register 1 (prepared words)) ≡ Some (extent 1 0 5 (record { 0 = pos 4 }) (record { 0 = pos 36 })))
+    × (outline_of (register 0 (prepared three)) ≡ None)
+    × (outline_of (register 2 (prepared three)) ≡ None)
+    × (outline_of (register 3 (prepared three)) ≡ Some (extent 1 0 0 no_bytes no_bytes))
+    × (outline_of (register 32 (prepared three)) ≡ None)
+    × (element_of (register 1 (prepared triangle)) 5 ≡ Some (record { 0 = pos 18 }))
+    × (element_of (register 1 (prepared words)) 4 ≡ Some (record { 0 = pos 36 }))
+    × (element_of (register 1 (prepared words)) 5 ≡ None)
+    × (element_of (register 2 (prepared three)) 0 ≡ None)
+    × (element_of (register 1 (prepared risen)) 0 ≡ None)
+    × (element_of (register 1 (prepared risen)) 1 ≡ Some (record { 0 = pos 8 }))
+    × (element_of (register 1 (prepared risen)) 6 ≡ Some (record { 0 = pos 26 }))
+    × (element_of (register 1 (prepared risen)) 7 ≡ None)
 unfolding extent_of outline_of located_in element_of register prepared grown triangle words three risen
     groups_at number_at signed_of header_said header_of open_at dimension_at modifier_at end_at operation_at
     size_at added join span loops elements pass_stops stops_in is_element nothing_at only highs low_or_high_from product

@@ -6,7 +6,7 @@
 --   PassTold, pass-told, inside-told   what the questions are told there
 --   ends-or-inside               a coupled stream stands at one or the other
 --   finished-coupled, finished-uncoupled   when it is finished at end
-use Rattle.std.specs.Prelude.{◌≡◌, ℕ, zero, suc, ◌+◌, ◌-◌, ◌<◌, ◌≤◌, Bool, true, false, cond, ◌⊎◌, ◌↔◌, List, [], ◌∷◌, ◌++◌, map, length, get_or, take, drop, nat_le, slice_index_or}
+use Rattle.std.specs.Prelude.{◌≡◌, ℕ, zero, suc, ◌+◌, ◌-◌, ◌<◌, ◌≤◌, Bool, true, false, cond, ◌⊎◌, ◌↔◌, List, [], ◌∷◌, ◌++◌, map, length, get_or, take, drop, nat_le, slice_index_or, Ok, Option, Some, None}
 use Rattle.std.proofs.Math.Path.{refl, ap, subst}
 use Rattle.std.proofs.Common.{sym, ◌∙◌, inl, inr, ⊎_elim, zero-add, eq-or-lt_of_le, take-append-drop, take-suc, take_all, drop-cons, drop-drop, leb-true, le-leb}
 use native.Mathlib.Omega.{arith}
@@ -14,8 +14,6 @@ use Rattle.std.proofs.Math.Decide.{dec_le, dec_lt}
 use Rattle.std.proofs.Math.ListN.{length-append, get_or-append}
 use Rattle.std.proofs.lemmas.List.{length-map}
 use Rattle.std.proofs.Math.Seq.{get_or-append-add}
-use Rattle.codec.specs.declared.header.Coupling.{Coupling}
-use Rattle.codec.specs.declared.header.Coupling.TheVariants.{Uncoupled, Coupled}
 use Rattle.engine.specs.Configure.{Covers}
 use Rattle.engine.specs.Loops.{size_at, join, loops, elements}
 use Rattle.engine.specs.Members.{Each, each-one, front-all}
@@ -32,7 +30,6 @@ use Rattle.engine.specs.Questions.{ask_flag, ask_end}
 use Rattle.engine.specs.Histories.{PassEnds}
 use Rattle.engine.specs.Given.{Stream, stops_of, pattern_of, AtMoment}
 use Rattle.engine.specs.MomentLaws.{flagged}
-use Rattle.engine.specs.declared.check.Told.TheVariants.{Yes}
 use Rattle.engine.specs.declared.stream.Shape.{Shape}
 use Rattle.engine.specs.declared.register.State.TheVariants.{Open, Finished}
 use Rattle.engine.specs.declared.register.Machine.{Machine}
@@ -74,13 +71,13 @@ pub record InsideFlags (s : Shape) (n : ℕ) : Type 0 where
 
 -- what the questions are told of the stream t in register i of a machine, after coupled pass j
 pub record PassTold (t : Stream) (m : Machine) (i c j : ℕ) : Type 0 where
-  pub below : (d : ℕ) → 1 ≤ d → d < c → ask_flag m i d ≡ Yes
+  pub below : (d : ℕ) → 1 ≤ d → d < c → ask_flag m i d ≡ Ok true
   pub upward : (d : ℕ) → 1 ≤ d → c ≤ d → d ≤ length t.dimensions
-      → (ask_flag m i d ≡ Yes)
+      → (ask_flag m i d ≡ Ok true)
       ↔ ((k : ℕ) → j < k → k < length (outers_of (pattern_of t).shape c)
       → ¬ (drop (d - c) (slice_index_or (outers_of (pattern_of t).shape c) j []) ≡ drop (d - c) (slice_index_or (outers_of (pattern_of t).shape c) k [])))
   -- "in demand 2 the end of such a stream shows after its last coupled pass"
-  pub end : (ask_end m i ≡ Yes) ↔ (suc j ≡ length (outers_of (pattern_of t).shape c))
+  pub end : (ask_end m i ≡ Ok true) ↔ (suc j ≡ length (outers_of (pattern_of t).shape c))
 
 -- ---- order
 
@@ -183,7 +180,7 @@ finished-all s n = (λ e. go (nat_le (length (stops s)) n) refl e, λ h. ap (λ 
     go true e f = leb-true (length (stops s)) n e
     go false e f = absurd (let z : ◌≡◌ {A = ℕ} 0 1 = cc in omega arith)
 
-module _ (s : Shape) (c : ℕ) (coupled : s.coupling ≡ Coupled c) (covers : c ≤ s.dims) where
+module _ (s : Shape) (c : ℕ) (coupled : s.coupling ≡ Some c) (covers : c ≤ s.dims) where
   -- the outer indices of the passes
   abbrev os : List (List ℕ)
   os = outers_of s c
@@ -317,9 +314,9 @@ module _ (s : Shape) (c : ℕ) (coupled : s.coupling ≡ Coupled c) (covers : c 
       go (o ∷ l) h = absurd (omega (arith, length-append (f o) (join (map f l)), pass-some (size_at s) c o))
 
   -- the dimension that a coupling names
-  abbrev dimension_of : Coupling → ℕ
-  dimension_of Uncoupled = 0
-  dimension_of (Coupled d) = d
+  abbrev dimension_of : Option ℕ → ℕ
+  dimension_of None = 0
+  dimension_of (Some d) = d
 
   -- every pass has a stop
   each-some : (l : List (List ℕ)) → Each [] (λ g. 1 ≤ length g) (map f l)
@@ -333,8 +330,8 @@ module _ (s : Shape) (c : ℕ) (coupled : s.coupling ≡ Coupled c) (covers : c 
   goes_on n p h q =
       let x : n < length (stops s) = omega (arith, left-most (map f os) (n - 1), ap length all) in
       let m : suc (n - 1) ≡ n = omega arith in
-      let l : suc (n - 1) < length (stops_in (size_at s) s.dims (Coupled c)) = omega (arith, ap length all) in
-      let e : differ_next (stops_in (size_at s) s.dims (Coupled c)) (n - 1) ≤ c =
+      let l : suc (n - 1) < length (stops_in (size_at s) s.dims (Some c)) = omega (arith, ap length all) in
+      let e : differ_next (stops_in (size_at s) s.dims (Some c)) (n - 1) ≤ c =
       (same-group (size_at s) s.dims c covers (n - 1) l).1 (omega (arith, left-with_elements (map f os) (n - 1))) in
       let y : differ_next (stops s) (n - 1) ≤ c = subst (λ l. differ_next l (n - 1) ≤ c) (sym all) e in
       let z : drop c (slice_index_or (stops s) (n - 1) []) ≡ drop c (slice_index_or (stops s) (suc (n - 1)) []) =
@@ -350,7 +347,7 @@ module _ (s : Shape) (c : ℕ) (coupled : s.coupling ≡ Coupled c) (covers : c 
       (end-or-in (map f os) (each-some os) n p (omega (arith, ap length all)))
 
 -- 01: "or finishes it at once if it has no elements", of an uncoupled stream
-pub finished-uncoupled : (s : Shape) → s.coupling ≡ Uncoupled → (state_after s 0 ≡ Finished) ↔ (elements s ≡ [])
+pub finished-uncoupled : (s : Shape) → s.coupling ≡ None → (state_after s 0 ≡ Finished) ↔ (elements s ≡ [])
 finished-uncoupled s e =
     (λ x. go (elements s) (subst (λ l. length l ≤ 0) (stops-uncoupled s e) ((finished-all s 0).0 x)), λ x. (finished-all s 0).1 (omega (arith, ap length (stops-uncoupled s e ∙ x))))
   where
@@ -366,10 +363,10 @@ module _ (s : Shape) (cover : Covers s.dims s.coupling) (n : ℕ) (p : 0 < n) (h
   unfolding stops_in
   same-pass = go s.coupling refl
     where
-      all : (k : Coupling) → s.coupling ≡ k → length (stops s) ≡ length (stops_in (size_at s) s.dims k)
+      all : (k : Option ℕ) → s.coupling ≡ k → length (stops s) ≡ length (stops_in (size_at s) s.dims k)
       all k e = ap (λ y. length (stops_in (size_at s) s.dims y)) e
 
-      other : (c : ℕ) → s.coupling ≡ Coupled c → ¬ (differ_next (stops_in (size_at s) s.dims (Coupled c)) (n - 1) ≤ c) → PassEnds s n
+      other : (c : ℕ) → s.coupling ≡ Some c → ¬ (differ_next (stops_in (size_at s) s.dims (Some c)) (n - 1) ≤ c) → PassEnds s n
       other c e x = record {
         dimension = c;
         coupled = e;
@@ -380,14 +377,14 @@ module _ (s : Shape) (cover : Covers s.dims s.coupling) (n : ℕ) (p : 0 < n) (h
             x (subst (λ k. differ_next (stops_in (size_at s) s.dims k) (n - 1) ≤ c) e y);
       }
 
-      by : (c : ℕ) → s.coupling ≡ Coupled c → Dec (differ_next (stops_in (size_at s) s.dims (Coupled c)) (n - 1) ≤ c)
-          → 1 < left_in_group (groups (size_at s) s.dims (Coupled c)) (n - 1)
-      by c e (yes x) = (same-group (size_at s) s.dims c (subst (Covers s.dims) e cover) (n - 1) (omega (arith, all (Coupled c) e))).0 x
+      by : (c : ℕ) → s.coupling ≡ Some c → Dec (differ_next (stops_in (size_at s) s.dims (Some c)) (n - 1) ≤ c)
+          → 1 < left_in_group (groups (size_at s) s.dims (Some c)) (n - 1)
+      by c e (yes x) = (same-group (size_at s) s.dims c (subst (Covers s.dims) e cover) (n - 1) (omega (arith, all (Some c) e))).0 x
       by c e (no x) = absurd (inside (other c e x))
 
-      go : (k : Coupling) → s.coupling ≡ k → 1 < left_in_group (groups (size_at s) s.dims k) (n - 1)
-      go Uncoupled e = omega (arith, group-uncoupled (size_at s) s.dims (n - 1), all Uncoupled e)
-      go (Coupled c) e = by c e (dec_le (differ_next (stops_in (size_at s) s.dims (Coupled c)) (n - 1)) c)
+      go : (k : Option ℕ) → s.coupling ≡ k → 1 < left_in_group (groups (size_at s) s.dims k) (n - 1)
+      go None e = omega (arith, group-uncoupled (size_at s) s.dims (n - 1), all None e)
+      go (Some c) e = by c e (dec_le (differ_next (stops_in (size_at s) s.dims (Some c)) (n - 1)) c)
 
   -- both are of a chunk of two
   two : length (chunk s 2 (n - 1)) ≡ 2
@@ -441,14 +438,14 @@ module _ (s : Shape) (cover : Covers s.dims s.coupling) (n : ℕ) (p : 0 < n) (h
 module _ (t : Stream) (past : List (List ℕ)) (m : Machine) (i : ℕ) (a : AtMoment t past m i) where
   -- a flag is told as it is
   told : Covers (length t.dimensions) t.header.coupling → (d : ℕ) → 1 ≤ d → d ≤ length t.dimensions
-      → (ask_flag m i d ≡ Yes) ↔ (flag (height (pattern_of t).shape (length past)) d ≡ true)
+      → (ask_flag m i d ≡ Ok true) ↔ (flag (height (pattern_of t).shape (length past)) d ≡ true)
   told cover d p q =
       let most : length past ≤ length (stops_of t) = omega (arith, ap length a.each-stop, length-append past a.to_come) in
       let f = flagged (pattern_of t).shape cover (length past) d most q in
       (λ y. f.1 ((a.flag-yes d p q).0 y), λ y. (a.flag-yes d p q).1 (f.0 y))
 
   -- after a coupled pass
-  pub pass-told : (c : ℕ) → t.header.coupling ≡ Coupled c → c ≤ length t.dimensions → (j : ℕ) → j < length (outers_of (pattern_of t).shape c)
+  pub pass-told : (c : ℕ) → t.header.coupling ≡ Some c → c ≤ length t.dimensions → (j : ℕ) → j < length (outers_of (pattern_of t).shape c)
       → length past ≡ past_passes (pattern_of t).shape c (suc j) → PassTold t m i c j
   pass-told c e h j l n = record {
     below = λ d p q. (told cover d p (omega arith)).1 (subst (λ k. flag (height s k) d ≡ true) (sym n) (f.below d q));
@@ -474,7 +471,7 @@ module _ (t : Stream) (past : List (List ℕ)) (m : Machine) (i : ℕ) (a : AtMo
   -- inside a pass, and of an uncoupled stream that is not finished: "exactly if the last element moved is the last of its pass"
   pub inside-told : (cover : Covers (length t.dimensions) t.header.coupling) (p : 0 < length past) (h : length past < length (stops_of t))
       (inside : ¬ PassEnds (pattern_of t).shape (length past)) → (d : ℕ) → 1 ≤ d → d ≤ length t.dimensions
-      → let f = inside-flags (pattern_of t).shape cover (length past) p h inside in (ask_flag m i d ≡ Yes) ↔ (¬ (drop d f.last ≡ drop d f.next))
+      → let f = inside-flags (pattern_of t).shape cover (length past) p h inside in (ask_flag m i d ≡ Ok true) ↔ (¬ (drop d f.last ≡ drop d f.next))
   inside-told cover p h inside d q r =
       let x = told cover d q r in
       let y = (inside-flags (pattern_of t).shape cover (length past) p h inside).flags d r in

@@ -5,10 +5,8 @@
 --   Onward                    what the step from a position says
 --   ends_at                   where a chunk ends
 --   Ready                     a stream with a next chunk
-use Rattle.std.specs.Prelude.{◌≡◌, ℕ, ◌+◌, ◌<◌, ◌≤◌, Bool, true, cond, not, ◌||◌, List, [], length, take, drop, ◌+ℤ◌, nat_lt, slice_index, slice_index_or, slice_set}
+use Rattle.std.specs.Prelude.{◌≡◌, ℕ, ◌+◌, ◌<◌, ◌≤◌, Bool, true, cond, not, ◌||◌, List, [], length, take, drop, ◌+ℤ◌, nat_lt, slice_index, slice_index_or, slice_set, Option, Some, None}
 use Rattle.codec.specs.declared.amounts.Bytes.{Bytes}
-use Rattle.codec.specs.declared.header.Coupling.{Coupling}
-use Rattle.codec.specs.declared.header.Coupling.TheVariants.{Uncoupled, Coupled}
 use Rattle.engine.specs.Loops.{size_at}
 use Rattle.engine.specs.Chunks.{stops, is_element, height}
 use Rattle.engine.specs.Addresses.{stride_at, in_bytes, address}
@@ -54,9 +52,9 @@ along_of here = record {
 }
 
 -- whether a chunk ends where the walk goes on: there is no next stop, or it lies in another pass of the coupled dimension
-abbrev pub ends_at : Coupling → Bool → ℕ → Bool
-ends_at Uncoupled found h = not found
-ends_at (Coupled c) found h = not found || nat_lt c h
+abbrev pub ends_at : Option ℕ → Bool → ℕ → Bool
+ends_at None found h = not found
+ends_at (Some c) found h = not found || nat_lt c h
 
 -- an ended stream with stops to come, whose register says where it stands
 pub record Ready (r : Register) : Type 0 where

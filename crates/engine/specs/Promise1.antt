@@ -13,7 +13,7 @@
 --   Unrefused                     nothing else is refused
 --   AllFree, Encoded              a sheet that is, from its first byte to its last, what was read
 --   Promise1
-use Rattle.std.specs.Prelude.{◌≡◌, ℕ, zero, suc, ◌<◌, ◌≤◌, true, ◌⊎◌, ◌↔◌, List, [], ◌∷◌, ◌++◌, length, take, pos, ◌≤ℤ◌, slice_index, slice_index_or, unsigned_abs}
+use Rattle.std.specs.Prelude.{◌≡◌, ℕ, zero, suc, ◌<◌, ◌≤◌, true, ◌⊎◌, ◌↔◌, List, [], ◌∷◌, ◌++◌, length, take, pos, ◌≤ℤ◌, slice_index, slice_index_or, unsigned_abs, Ok, Err, Option, Some, None}
 use Rattle.codec.specs.Numbers.{number_bytes, signed_of}
 use Rattle.codec.specs.NumberLaws.{Stands}
 use Rattle.codec.specs.Refusals.{number_of}
@@ -21,8 +21,6 @@ use Rattle.codec.specs.Headers.{bits_of}
 use Rattle.codec.specs.HeaderLaws.{IsFree}
 use Rattle.codec.specs.Operations.{operation_bytes, calculation_bytes, task_code}
 use Rattle.codec.specs.declared.header.Kind.TheVariants.{Load}
-use Rattle.codec.specs.declared.header.Coupling.{Coupling}
-use Rattle.codec.specs.declared.header.Coupling.TheVariants.{Uncoupled, Coupled}
 use Rattle.codec.specs.declared.operation.Operation.{Operation}
 use Rattle.codec.specs.declared.operation.Operation.TheVariants as op
 use Rattle.codec.specs.declared.operation.Calculation.{Calculation}
@@ -31,17 +29,14 @@ use Rattle.engine.specs.Registers.{fresh_machine, reg, put}
 use Rattle.engine.specs.Configure.{register_of, applied, why_not, configured}
 use Rattle.engine.specs.Questions.{ask_flag, ask_end}
 use Rattle.engine.specs.Calculate.{World, refusal_of}
-use Rattle.engine.specs.Run.{Progress, begun, step}
+use Rattle.engine.specs.Run.{Progress, begun, step, refusal_at}
 use Rattle.engine.specs.Sheets.{is_loop_register, allowed, refused_at, run}
 use Rattle.engine.specs.Allowed.{Fits, Accepts, Calculates}
 use Rattle.engine.specs.Reasons.{OperationRefused, CalculationRefused, FlagRefused, EndOfStreamRefused}
 use Rattle.engine.specs.Histories.{no_placed, Ran}
-use Rattle.engine.specs.declared.check.Why.TheVariants.{Nothing, Because}
-use Rattle.engine.specs.declared.check.Told.TheVariants.{Untold}
 use Rattle.engine.specs.declared.register.State.TheVariants.{Open, Finished}
 use Rattle.engine.specs.declared.register.Machine.{Machine}
 use Rattle.engine.specs.declared.run.Placed.{Placed}
-use Rattle.engine.specs.declared.run.Verdict.TheVariants.{Done, Refused}
 
 -- ---- numbers
 
@@ -148,9 +143,9 @@ Configures (op.End i) = Unit {0}
 Configures (op.Run i n) = ⊥
 
 -- a coupled dimension is 1 to 7
-abbrev pub CouplingInRange : Coupling → Type 0
-CouplingInRange Uncoupled = Unit {0}
-CouplingInRange (Coupled c) = (1 ≤ c) × (c ≤ 7)
+abbrev pub CouplingInRange : Option ℕ → Type 0
+CouplingInRange None = Unit {0}
+CouplingInRange (Some c) = (1 ≤ c) × (c ≤ 7)
 
 -- every number of an operation is in its range
 abbrev pub OperationInRange : Operation → Type 0
@@ -274,19 +269,19 @@ pub data Encoded (s : List ℕ) : Type 0 where
 -- not refused exactly if the plain conditions hold: of the lengths, every operation that configures, 16 and every calculation
 pub record Unrefused : Type 0 where
   pub lengths : (vl len : ℕ) → (allowed vl len ≡ true) ↔ Fits vl len
-  pub operation : (o : Operation) (m : Machine) → Configures o → (why_not o m ≡ Nothing) ↔ Accepts o (reg m (register_of o))
+  pub operation : (o : Operation) (m : Machine) → Configures o → (why_not o m ≡ Ok tt) ↔ Accepts o (reg m (register_of o))
   pub loop : (loop : ℕ) (cs : List Placed) (m : Machine) → (is_loop_register loop cs m ≡ true) ↔ LoopsOn loop cs m
-  pub calculation : (vl : ℕ) (c : Calculation) (w : World) → (refusal_of vl c w ≡ Nothing) ↔ Calculates vl c w
+  pub calculation : (vl : ℕ) (c : Calculation) (w : World) → (refusal_of vl c w ≡ Ok tt) ↔ Calculates vl c w
   -- refused exactly for the first thing wanted that is lacking, with 01's number: 5 to 9, and 5, 10 to 14
-  pub operation-refused : (o : Operation) (m : Machine) (x : Refusal) → (why_not o m ≡ Because x) ↔ OperationRefused o (reg m (register_of o)) x
-  pub calculation-refused : (vl : ℕ) (c : Calculation) (w : World) (x : Refusal) → (refusal_of vl c w ≡ Because x) ↔ CalculationRefused vl c w x
+  pub operation-refused : (o : Operation) (m : Machine) (x : Refusal) → (why_not o m ≡ Err x) ↔ OperationRefused o (reg m (register_of o)) x
+  pub calculation-refused : (vl : ℕ) (c : Calculation) (w : World) (x : Refusal) → (refusal_of vl c w ≡ Err x) ↔ CalculationRefused vl c w x
   -- so are the two questions: 2, 5, 2, and 2, 5
-  pub flag-refused : (m : Machine) (i d : ℕ) (x : Refusal) → (ask_flag m i d ≡ Untold x) ↔ FlagRefused i d (reg m i) x
-  pub end_refused : (m : Machine) (i : ℕ) (x : Refusal) → (ask_end m i ≡ Untold x) ↔ EndOfStreamRefused i (reg m i) x
+  pub flag-refused : (m : Machine) (i d : ℕ) (x : Refusal) → (ask_flag m i d ≡ Err x) ↔ FlagRefused i d (reg m i) x
+  pub end_refused : (m : Machine) (i : ℕ) (x : Refusal) → (ask_end m i ≡ Err x) ↔ EndOfStreamRefused i (reg m i) x
   -- a refused one alters nothing
-  pub operation-kept : (o : Operation) (m : Machine) (x : Refusal) → why_not o m ≡ Because x → configured o m ≡ m
-  pub calculation-kept : (vl : ℕ) (c : Placed) (g : Progress) (x : Refusal) → refusal_of vl c.calculation g.world ≡ Because x
-      → step vl c g ≡ record { world = g.world; report = g.report; verdict = Refused x c.place }
+  pub operation-kept : (o : Operation) (m : Machine) (x : Refusal) → why_not o m ≡ Err x → configured o m ≡ m
+  pub calculation-kept : (vl : ℕ) (c : Placed) (g : Progress) (x : Refusal) → refusal_of vl c.calculation g.world ≡ Err x
+      → step vl c g ≡ record { world = g.world; report = g.report; verdict = refusal_at x c.place }
 
 -- ---- the promise
 
@@ -299,4 +294,4 @@ pub record Promise1 (vl : ℕ) (s memory : List ℕ) : Type 0 where
   pub stands : Fits vl (length memory) → (os : List Operation) (at : ℕ) (m : Machine) → DoneBefore s os at m
       → run vl (take at s) memory ≡ begun (world m memory)
   -- a sheet that is done is, from its first byte to its last, the encodings of what was read
-  pub whole : (run vl s memory).verdict ≡ Done → Encoded s
+  pub whole : (run vl s memory).verdict ≡ Ok tt → Encoded s

@@ -5,7 +5,7 @@
 --   Unmoved, Streams     streams before the run; streams at every moment of it
 --   Empty, AllEmpty, Unnamed, Fresh   registers before any calculation; those that no operation named
 --   Promise2
-use Rattle.std.specs.Prelude.{◌≡◌, ℕ, ◌<◌, ◌≤◌, List, [], ◌∷◌, length, take, replicate}
+use Rattle.std.specs.Prelude.{◌≡◌, ℕ, ◌<◌, ◌≤◌, List, [], ◌∷◌, length, take, replicate, Ok}
 use Rattle.codec.specs.declared.operation.Operation.{Operation}
 use Rattle.engine.specs.Loops.{elements}
 use Rattle.engine.specs.Registers.{reg}
@@ -20,7 +20,6 @@ use Rattle.engine.specs.declared.register.State.TheVariants.{Plain}
 use Rattle.engine.specs.declared.register.Register.{Register}
 use Rattle.engine.specs.declared.register.Machine.{Machine}
 use Rattle.engine.specs.declared.run.Placed.{Placed}
-use Rattle.engine.specs.declared.run.Verdict.TheVariants.{Done}
 
 -- the streams that the operations os ended, and that were not opened anew, nothing moved yet
 abbrev pub Unmoved : List Operation → Machine → Type 0
@@ -54,8 +53,8 @@ pub record Streams (vl : ℕ) (os : List Operation) (m : Machine) (memory : List
   -- the loop register's stream is one of them; done, it has gone past all its stops, and all its elements have moved
   pub stream : Stream
   pub is-ended : given_for loop os ≡ ended stream
-  pub all : r.verdict ≡ Done → moved_of ran.entries loop ≡ stops_of stream
-  pub all_moved : r.verdict ≡ Done → elements_in stream (moved_of ran.entries loop) ≡ elements (pattern_of stream).shape
+  pub all : r.verdict ≡ Ok tt → moved_of ran.entries loop ≡ stops_of stream
+  pub all_moved : r.verdict ≡ Ok tt → elements_in stream (moved_of ran.entries loop) ≡ elements (pattern_of stream).shape
 
 -- promise 2 for a vector length, a sheet and a memory: each element once, at every moment
 pub record Promise2 (vl : ℕ) (s memory : List ℕ) : Type 0 where

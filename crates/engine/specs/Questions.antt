@@ -2,15 +2,12 @@
 --
 --   flag_checks, end_of_stream_checks   why a question is refused
 --   ask_flag, ask_end         what is answered
-use Rattle.std.specs.Prelude.{ℕ, Bool, not, ◌||◌, List, [], ◌∷◌, ◌==◌, nat_lt}
+use Rattle.std.specs.Prelude.{ℕ, Bool, not, ◌||◌, List, [], ◌∷◌, ◌==◌, nat_lt, Result, Ok, Err}
+use Rattle.codec.specs.declared.refusal.Refusal.{Refusal}
 use Rattle.codec.specs.declared.refusal.Refusal.TheVariants.{OutOfRange, WrongState}
 use Rattle.engine.specs.Chunks.{flag}
-use Rattle.engine.specs.Checks.{Check, ◌if◌, first_of}
+use Rattle.engine.specs.Checks.{Check, ◌if◌, first_of, Why}
 use Rattle.engine.specs.Registers.{is_open, is_finished, shape_of, reg}
-use Rattle.engine.specs.declared.check.Why.{Why}
-use Rattle.engine.specs.declared.check.Why.TheVariants.{Nothing, Because}
-use Rattle.engine.specs.declared.check.Told.{Told}
-use Rattle.engine.specs.declared.check.Told.TheVariants.{Yes, No, Untold}
 use Rattle.engine.specs.declared.register.Register.{Register}
 use Rattle.engine.specs.declared.register.Machine.{Machine}
 
@@ -27,20 +24,15 @@ flag_checks i d r =
 abbrev pub end_of_stream_checks : ℕ → Register → List Check
 end_of_stream_checks i r = OutOfRange if nat_lt 31 i ∷ WrongState if not (is_open r.state || is_finished r.state) ∷ []
 
--- yes if it is so, else no
-abbrev pub yes_or_no : Bool → Told
-yes_or_no Bool.true = Yes
-yes_or_no Bool.false = No
-
--- the refusal if there is one, else yes or no
-abbrev pub unless : Why → Bool → Told
-unless Nothing b = yes_or_no b
-unless (Because x) b = Untold x
+-- the refusal if there is one, else whether it is so
+abbrev pub unless : Why → Bool → Result Bool Refusal
+unless (Ok _) b = Ok b
+unless (Err x) b = Err x
 
 -- the flag of a dimension, counted from 1
-unfoldable pub ask_flag : Machine → ℕ → ℕ → Told
+unfoldable pub ask_flag : Machine → ℕ → ℕ → Result Bool Refusal
 ask_flag m i d = unless (first_of (flag_checks i d (reg m i))) (flag (reg m i).height d)
 
 -- the end of stream
-unfoldable pub ask_end : Machine → ℕ → Told
+unfoldable pub ask_end : Machine → ℕ → Result Bool Refusal
 ask_end m i = unless (first_of (end_of_stream_checks i (reg m i))) (is_finished (reg m i).state)

@@ -5,10 +5,9 @@
 --   to_come, next_stops, next_chunk                the stops still to come; those of the next chunk, and its elements
 --   index_of, state_after, stops_for, moved_by      a stream after some lanes more
 --   fresh_machine, reg, put                      the 32 registers
-use Rattle.std.specs.Prelude.{ℕ, ◌+◌, ◌/◌, Bool, true, false, cond, not, ◌&&◌, List, [], ◌++◌, length, take, drop, replicate, nat_le, slice_index_or, slice_set}
+use Rattle.std.specs.Prelude.{ℕ, ◌+◌, ◌/◌, Bool, true, false, cond, not, ◌&&◌, List, [], ◌++◌, length, take, drop, replicate, nat_le, slice_index_or, slice_set, None}
 use Rattle.codec.specs.declared.header.Kind.{Kind}
 use Rattle.codec.specs.declared.header.Kind.TheVariants.{Load, Store}
-use Rattle.codec.specs.declared.header.Coupling.TheVariants.{Uncoupled}
 use Rattle.codec.specs.declared.operation.Parameter.TheVariants.{Size}
 use Rattle.codec.specs.declared.operation.Behaviour.TheVariants.{Add}
 use Rattle.engine.specs.Chunks.{stops, held_in, nothing_at, chunk, height}
@@ -61,7 +60,7 @@ no_modifier = record { owner = 0; target = 0; parameter = Size; behaviour = Add;
 
 -- a shape with no dimension and no modifier yet
 abbrev pub no_shape : Shape
-no_shape = record { dims = 0; sizes = replicate 7 0; mods = 0; modifiers = replicate 8 no_modifier; coupling = Uncoupled }
+no_shape = record { dims = 0; sizes = replicate 7 0; mods = 0; modifiers = replicate 8 no_modifier; coupling = None }
 
 -- a pattern with no descriptors yet
 abbrev pub no_pattern : Pattern
@@ -89,7 +88,7 @@ no_register = record {
   valid = 0;
   lanes = [];
   kind = Load;
-  pattern = record { shape = record { dims = 0; sizes = []; mods = 0; modifiers = []; coupling = Uncoupled }; base = no_bytes; offsets = []; strides = [] };
+  pattern = record { shape = record { dims = 0; sizes = []; mods = 0; modifiers = []; coupling = None }; base = no_bytes; offsets = []; strides = [] };
   moved = 0;
   index = [];
   height = 0;

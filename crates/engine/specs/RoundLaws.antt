@@ -3,7 +3,7 @@
 --   turn-at, times-take   a body several times, by its places
 --   rounds-turned         a run of so many rounds, and of the first calculations of the body, is one of its calculations in turn
 --   execute-turned        execute is one
-use Rattle.std.specs.Prelude.{◌≡◌, ℕ, zero, suc, ◌+◌, ◌-◌, ◌*◌, ◌/◌, ◌%◌, ◌<◌, ◌≤◌, true, ◌⊎◌, List, ◌++◌, length, get_or, take, drop, slice_index_or, refl}
+use Rattle.std.specs.Prelude.{◌≡◌, ℕ, zero, suc, ◌+◌, ◌-◌, ◌*◌, ◌/◌, ◌%◌, ◌<◌, ◌≤◌, true, ◌⊎◌, List, ◌++◌, length, get_or, take, drop, slice_index_or, refl, Ok, Err}
 use Rattle.std.proofs.Common.{sym, ◌∙◌, inl, inr, append_assoc, append-nil, mod-eq_of_lt, div-add-mod', div-lt_iff_lt-mul, eq-or-lt_of_le, length-drop, get_or-drop}
 use Rattle.std.proofs.Math.Path.{ap}
 use native.Mathlib.Omega.{arith}
@@ -17,7 +17,7 @@ use Rattle.codec.specs.declared.refusal.Refusal.{Refusal}
 use Rattle.engine.specs.Members.{get_d_past}
 use Rattle.engine.specs.Registers.{is_open, is_finished, to_come, reg}
 use Rattle.engine.specs.Calculate.{World, refusal_of}
-use Rattle.engine.specs.Run.{Progress, begun, execute}
+use Rattle.engine.specs.Run.{Progress, begun, execute, Verdict}
 use Rattle.engine.specs.HistoryLaws.{after_all, times}
 use Rattle.engine.specs.RunLaws as runs
 use Rattle.engine.specs.EndLaws.{Running, execute-finishes}
@@ -27,8 +27,6 @@ use Rattle.engine.specs.TurnLaws.{Turned}
 use Rattle.engine.specs.declared.register.State.{State}
 use Rattle.engine.specs.declared.register.State.TheVariants.{Plain, Configuring, Open, Finished}
 use Rattle.engine.specs.declared.run.Placed.{Placed}
-use Rattle.engine.specs.declared.run.Verdict.{Verdict}
-use Rattle.engine.specs.declared.run.Verdict.TheVariants.{Done, Refused}
 
 -- ---- a body several times
 
@@ -88,7 +86,7 @@ finished-state Finished e = refl
 
 -- a run of so many rounds, and of the first calculations of the body
 module _ (vl loop : ℕ) (body : List Placed) (w : World) (r : Progress) (q : runs.Repeats vl loop body (begun w) r) (some : 1 ≤ length body)
-    (finished : r.verdict ≡ Done → is_finished (reg r.world.machine loop).state ≡ true) where
+    (finished : r.verdict ≡ Ok tt → is_finished (reg r.world.machine loop).state ≡ true) where
   -- its calculations
   abbrev all : List Placed
   all = times q.rounds body ++ take q.rest body
@@ -98,8 +96,8 @@ module _ (vl loop : ℕ) (body : List Placed) (w : World) (r : Progress) (q : ru
   less = go r.verdict refl
     where
       go : (v : Verdict) → r.verdict ≡ v → q.rest < length body
-      go Done v = omega (arith, q.done v)
-      go (Refused x at) v = let s = q.refused x at v in omega (arith, ap length s.is, length-drop q.rest body)
+      go (Ok _) v = omega (arith, q.done v)
+      go (Err x) v = let s = q.refused x.refusal x.place v in omega (arith, ap length s.is, length-drop q.rest body)
 
   -- their number
   long : length all ≡ q.rounds * length body + q.rest
@@ -115,8 +113,8 @@ module _ (vl loop : ℕ) (body : List Placed) (w : World) (r : Progress) (q : ru
     where
       go : (j ≡ q.rounds) ⊎ (j < q.rounds) → (v : Verdict) → r.verdict ≡ v → is_open (reg (after_all vl w (times j body)).machine loop).state ≡ true
       go (inr l) v e = q.began j l
-      go (inl p) Done e = absurd (omega (arith, long, q.done e, ap (λ n. n * length body) p))
-      go (inl p) (Refused x at) e = ap (λ n. is_open (reg (after_all vl w (times n body)).machine loop).state) p ∙ q.broken x at e
+      go (inl p) (Ok _) e = absurd (omega (arith, long, q.done e, ap (λ n. n * length body) p))
+      go (inl p) (Err x) e = ap (λ n. is_open (reg (after_all vl w (times n body)).machine loop).state) p ∙ q.broken x.refusal x.place e
 
   -- the same by the number of calculations
   began : (k : ℕ) → k < length all → k % length body ≡ 0 → (reg (after_all vl w (take k all)).machine loop).state ≡ Open

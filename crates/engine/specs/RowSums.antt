@@ -9,9 +9,8 @@
 --   passes_of, PassRead   the passes of the coupled dimension; one of them, and the moments between which it is read
 --   Sums, SumsOver       the sums of a stream over a history; over a run
 --   RowSums, SameSums    the promise; the same at two vector lengths
-use Rattle.std.specs.Prelude.{◌≡◌, ℕ, suc, ◌+◌, ◌*◌, ◌<◌, ◌≤◌, false, List, [], ◌∷◌, ◌++◌, map, length, get_or, take, drop, slice_index_or}
+use Rattle.std.specs.Prelude.{◌≡◌, ℕ, suc, ◌+◌, ◌*◌, ◌<◌, ◌≤◌, false, List, [], ◌∷◌, ◌++◌, map, length, get_or, take, drop, slice_index_or, Ok, true, Some}
 use Rattle.codec.specs.declared.header.Kind.TheVariants.{Load}
-use Rattle.codec.specs.declared.header.Coupling.TheVariants.{Coupled}
 use Rattle.codec.specs.declared.operation.Fold.TheVariants.{Sum, Smallest, Largest}
 use Rattle.codec.specs.declared.operation.Task.TheVariants.{All}
 use Rattle.codec.specs.declared.operation.Operation.{Operation}
@@ -30,11 +29,9 @@ use Rattle.engine.specs.Given.{Stream, stops_of, elements_in, pattern_of, ended,
 use Rattle.engine.specs.Promise1.{DoneBefore, RunAt, LoopsOn, world}
 use Rattle.engine.specs.Promise2.{Streams}
 use Rattle.engine.specs.StreamSums.{stream_width, all_of, values_of, sum_of, partial_sums, total, entry_at, calculation_of, DidIn, destination_of, chunk_read, chunks_read, between, Steady, StoresApart, Row}
-use Rattle.engine.specs.declared.check.Told.TheVariants.{Yes}
 use Rattle.engine.specs.declared.register.State.TheVariants.{Plain, Open}
 use Rattle.engine.specs.declared.register.Machine.{Machine}
 use Rattle.engine.specs.declared.run.Placed.{Placed}
-use Rattle.engine.specs.declared.run.Verdict.TheVariants.{Done}
 
 -- ---- one entry, from w
 
@@ -131,17 +128,17 @@ pub record SumsOver (vl : ℕ) (os : List Operation) (m : Machine) (memory : Lis
   pub passes : (gs : List (List (List ℕ))) (g : List (List ℕ)) (hs : List (List (List ℕ))) → stream_groups (pattern_of t).shape ≡ gs ++ (g ∷ hs)
       → Row (pattern_of t).shape (join gs) g (join hs)
   -- coupled to dimension c: the elements of its groups, group by group, are the passes of that dimension that the outer loops reach
-  pub in-passes : (c : ℕ) → t.header.coupling ≡ Coupled c → map (elements_in t) (stream_groups (pattern_of t).shape) ≡ passes_of t c
+  pub in-passes : (c : ℕ) → t.header.coupling ≡ Some c → map (elements_in t) (stream_groups (pattern_of t).shape) ≡ passes_of t c
   -- if steady, each pass that a load has gone past has its sum, in order; once the question for the end of the stream is told yes, each pass
-  pub by-pass : Steady t (world m memory) q.ran.entries i → t.header.kind ≡ Load → (c : ℕ) → t.header.coupling ≡ Coupled c → (n : ℕ)
+  pub by-pass : Steady t (world m memory) q.ran.entries i → t.header.kind ≡ Load → (c : ℕ) → t.header.coupling ≡ Some c → (n : ℕ)
       → n < length (passes_of t c) → length (stops_before t (suc n)) ≤ length (moved_of q.ran.entries i)
       → PassRead t (world m memory) q.ran.entries i c n
-  pub all-sums : Steady t (world m memory) q.ran.entries i → t.header.kind ≡ Load → (c : ℕ) → t.header.coupling ≡ Coupled c
-      → ask_end r.world.machine i ≡ Yes → (n : ℕ) → n < length (passes_of t c) → PassRead t (world m memory) q.ran.entries i c n
+  pub all-sums : Steady t (world m memory) q.ran.entries i → t.header.kind ≡ Load → (c : ℕ) → t.header.coupling ≡ Some c
+      → ask_end r.world.machine i ≡ Ok true → (n : ℕ) → n < length (passes_of t c) → PassRead t (world m memory) q.ran.entries i c n
   -- it is steady if the body stores nothing that the stream reads
   pub steady : StoresApart t os cs → Steady t (world m memory) q.ran.entries i
   -- it has gone past all its stops once the question for the end of the stream is told yes
-  pub walked : ask_end r.world.machine i ≡ Yes → moved_of q.ran.entries i ≡ stops_of t
+  pub walked : ask_end r.world.machine i ≡ Ok true → moved_of q.ran.entries i ≡ stops_of t
 
 -- for a vector length, a sheet and a memory: of every stream that the sheet ended, coupled or not
 pub record RowSums (vl : ℕ) (s memory : List ℕ) : Type 0 where
@@ -161,7 +158,7 @@ pub record SameSums (a b : ℕ) (s memory : List ℕ) : Type 0 where
   pub done : Fits a (length memory) → Fits b (length memory) → (os : List Operation) (at : ℕ) (m : Machine) (loop : ℕ) (cs : List Placed)
       → DoneBefore s os at m → RunAt s at loop cs (length s) → LoopsOn loop cs m → (p : Streams a os m memory loop cs (run a s memory))
       (q : Streams b os m memory loop cs (run b s memory)) → (t : Stream) → given_for loop os ≡ ended t → StoresApart t os cs
-      → (run a s memory).verdict ≡ Done → (run b s memory).verdict ≡ Done
+      → (run a s memory).verdict ≡ Ok tt → (run b s memory).verdict ≡ Ok tt
       → total t (chunks_read (world m memory) p.ran.entries loop) ≡ total t (chunks_read (world m memory) q.ran.entries loop)
   -- and each row of its own, however many chunks it was cut into
   pub rows : (os : List Operation) (m : Machine) (loop : ℕ) (cs : List Placed) (p : Streams a os m memory loop cs (run a s memory))

@@ -1,32 +1,40 @@
 -- Passes of a body.
 --
+--   Verdict, refusal_at    done, or a refusal with its place
 --   number_given, place_given   a verdict's number and place
 --   Progress, begun        how far a run is
 --   Reason                 what says why a calculation is refused
 --   step_by, pass_by, counted   one calculation; the body once; one pass more counted
 --   repeat_by, execute_by    the body while the loop register's stream is open
 --   step .. execute        the same by the checks of a calculation
-use Rattle.std.specs.Prelude.{ℕ, zero, suc, ◌+◌, cond, List, [], ◌∷◌, length}
+use Rattle.std.specs.Prelude.{ℕ, zero, suc, ◌+◌, cond, List, [], ◌∷◌, length, Result, Ok, Err}
 use Rattle.codec.specs.Refusals.{number_of}
 use Rattle.codec.specs.declared.operation.Calculation.{Calculation}
+use Rattle.codec.specs.declared.refusal.Refusal.{Refusal}
+use Rattle.codec.specs.declared.refusal.Refused.{Refused}
+use Rattle.engine.specs.Checks.{Why}
 use Rattle.engine.specs.Registers.{is_open, to_come, reg}
 use Rattle.engine.specs.Calculate.{World, refusal_of, effect}
-use Rattle.engine.specs.declared.check.Why.{Why}
-use Rattle.engine.specs.declared.check.Why.TheVariants.{Nothing, Because}
 use Rattle.engine.specs.declared.run.Report.{Report}
-use Rattle.engine.specs.declared.run.Verdict.{Verdict}
-use Rattle.engine.specs.declared.run.Verdict.TheVariants.{Done, Refused}
 use Rattle.engine.specs.declared.run.Placed.{Placed}
+
+-- "done, or a refusal's number and place"
+abbrev pub Verdict : Type 0
+Verdict = Result (Unit {0}) Refused
+
+-- a refusal and its place
+abbrev pub refusal_at : Refusal → ℕ → Verdict
+refusal_at x place = Err (record { refusal = x; place = place })
 
 -- "the refusal's number", 0 if nothing was refused
 abbrev pub number_given : Verdict → ℕ
-number_given Done = 0
-number_given (Refused x place) = number_of x
+number_given (Ok _) = 0
+number_given (Err x) = number_of x.refusal
 
 -- its place, 0 if nothing was refused
 abbrev pub place_given : Verdict → ℕ
-place_given Done = 0
-place_given (Refused x place) = place
+place_given (Ok _) = 0
+place_given (Err x) = x.place
 
 -- how far a run is
 pub record Progress : Type 0 where
@@ -36,13 +44,13 @@ pub record Progress : Type 0 where
 
 -- before the first pass
 abbrev pub begun : World → Progress
-begun w = record { world = w; report = record { passes = 0; calculations = 0 }; verdict = Done }
+begun w = record { world = w; report = record { passes = 0; calculations = 0 }; verdict = Ok tt }
 
 -- one calculation more, or its refusal; "The place is the first byte of the calculation if one is at fault"
 abbrev pub stepped : Why → ℕ → World → Progress → Progress
-stepped Nothing place w g =
-    record { world = w; report = record { passes = g.report.passes; calculations = g.report.calculations + 1 }; verdict = Done }
-stepped (Because x) place w g = record { world = g.world; report = g.report; verdict = Refused x place }
+stepped (Ok _) place w g =
+    record { world = w; report = record { passes = g.report.passes; calculations = g.report.calculations + 1 }; verdict = Ok tt }
+stepped (Err x) place w g = record { world = g.world; report = g.report; verdict = refusal_at x place }
 
 -- what says, of a vector length, a calculation and a world, why the calculation is refused there
 abbrev pub Reason : Type 0
@@ -54,8 +62,8 @@ step_by why vl c g = stepped (why vl c.calculation g.world) c.place (effect vl c
 
 -- what follows, unless refused
 abbrev pub unless_refused : Verdict → Progress → Progress → Progress
-unless_refused Done refused next = next
-unless_refused (Refused x place) refused next = refused
+unless_refused (Ok _) refused next = next
+unless_refused (Err x) refused next = refused
 
 -- the body once, up to the first calculation that is refused
 unfoldable pub pass_by : Reason → ℕ → List Placed → Progress → Progress

@@ -7,9 +7,9 @@
 --   Remembers                     what it remembers of the next stop is so
 --   gone_by, behind, afterwards    behind a chunk
 --   listed_in                      the addresses of a chunk
---   row_ahead, part_of              a chunk of the present row; a part
+--   row_ahead                       a chunk of the present row
 --   Near, Looks                   a chunk looked at
-use Rattle.std.specs.Prelude.{◌≡◌, ℕ, ◌+◌, ◌^◌, ◌≤◌, true, cond, List, [], ◌∷◌, length, take, ℤ, pos, ◌+ℤ◌, ◌*ℤ◌, ◌==◌, slice_set, unsigned_abs}
+use Rattle.std.specs.Prelude.{◌≡◌, ℕ, ◌+◌, ◌^◌, ◌≤◌, true, cond, List, [], length, take, ℤ, pos, ◌+ℤ◌, ◌*ℤ◌, ◌==◌, slice_set, unsigned_abs}
 use Rattle.codec.specs.declared.amounts.Bytes.{Bytes}
 use Rattle.engine.specs.Chunks.{held_in, chunk}
 use Rattle.engine.specs.Registers.{is_open, no_pattern, moved_by}
@@ -21,6 +21,7 @@ use Rattle.engine.specs.declared.register.State.TheVariants.{Open, Finished}
 use Rattle.engine.specs.declared.register.Register.{Register}
 use Rattle.engine.specs.declared.running.Running.{Running}
 use Rattle.engine.specs.declared.ahead.Ahead.{Ahead}
+use Rattle.engine.specs.declared.part.Part.{Part}
 
 -- the place in its row at which a running register stands
 abbrev pub place_of : List ℕ → Running → Place
@@ -91,7 +92,7 @@ abbrev pub afterwards : Ahead → Running → Running
 afterwards o q = cond o.live (behind o q) q
 
 -- the addresses of a chunk that was looked at: those of the first parts of an array
-abbrev pub listed_in : Ahead → List (List ℤ) → List ℤ
+abbrev pub listed_in : Ahead → List Part → List ℤ
 listed_in o rows = joined_in (take o.parts rows)
 
 -- the next n elements of the present row, as a chunk, where they do not end the row
@@ -107,10 +108,6 @@ row_ahead n q = record {
   size = q.size;
   step = q.step;
 }
-
--- a part of n elements
-abbrev pub part_of : Bytes → Bytes → ℕ → List ℤ
-part_of a step n = a.0 ∷ step.0 ∷ pos n ∷ []
 
 -- an address and a step far from overflowing
 abbrev pub Near : Bytes → Bytes → Type 0

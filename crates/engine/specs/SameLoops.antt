@@ -1,11 +1,9 @@
 -- Loops, the groups that no chunk crosses and the elements among stops, at the same sizes.
 --
 --   loops-same, groups-same, among_same    they are the same
-use Rattle.std.specs.Prelude.{◌≡◌, ℕ, zero, suc, ◌+◌, ◌-◌, cond, ◌&&◌, List, [], ◌∷◌, ◌++◌, map, length, replicate, nat_lt}
+use Rattle.std.specs.Prelude.{◌≡◌, ℕ, zero, suc, ◌+◌, ◌-◌, cond, ◌&&◌, List, [], ◌∷◌, ◌++◌, map, length, replicate, nat_lt, Option, Some, None}
 use Rattle.std.proofs.Math.Path.{refl, ap, ap₂}
 use Rattle.std.proofs.Common.{◌∙◌, arith}
-use Rattle.codec.specs.declared.header.Coupling.{Coupling}
-use Rattle.codec.specs.declared.header.Coupling.TheVariants.{Uncoupled, Coupled}
 use Rattle.engine.specs.Configure.{Covers}
 use Rattle.engine.specs.Loops.{span, loops}
 use Rattle.engine.specs.Members.{Each}
@@ -35,10 +33,10 @@ module _ (f g : ℕ → List ℕ → ℕ) (D : ℕ) (same : (d : ℕ) (outer : L
       ap₂ ◌∷◌ (ap (or_one (replicate c 0 ++ v)) (loops-same 0 c v (h 0 (omega arith)))) (map_same c vs (λ k l. h (suc k) (omega arith)))
 
   -- groups at the same sizes
-  pub groups-same : (k : Coupling) → Covers D k → groups f D k ≡ groups g D k
+  pub groups-same : (k : Option ℕ) → Covers D k → groups f D k ≡ groups g D k
   unfolding groups
-  groups-same Uncoupled h = ap (λ l. with_elements (l ∷ [])) (loops-same 0 D [] (omega arith))
-  groups-same (Coupled c) h =
+  groups-same None h = ap (λ l. with_elements (l ∷ [])) (loops-same 0 D [] (omega arith))
+  groups-same (Some c) h =
       ap with_elements
       (ap (map (pass_stops f c)) (loops-same c (D - c) [] (omega arith))
       ∙ map_same c (loops g c (D - c) []) (λ j l. omega (arith, loops-length g c (D - c) [] j l)))

@@ -7,7 +7,7 @@
 --   contents-left                 what registers hold
 --   resized, limits               low, high and product at their limits
 --   fault_of .. roomy, faults      lane and operand of 14
-use Rattle.std.specs.Prelude.{◌≡◌, ℕ, List, [], ◌∷◌, ◌++◌, map, take, drop, replicate, pos, refl}
+use Rattle.std.specs.Prelude.{◌≡◌, ℕ, List, [], ◌∷◌, ◌++◌, map, take, drop, replicate, pos, refl, Ok, Err}
 use Rattle.codec.specs.Refusals.{number_of, lane_of, operand_of}
 use Rattle.codec.specs.Numbers.{groups_at, number_at, signed_of}
 use Rattle.codec.specs.Headers.{header_said, header_of}
@@ -22,12 +22,10 @@ use Rattle.engine.specs.Calculate.{given, results, all_inside, lane_outside, ref
 use Rattle.engine.specs.Checks.{first_of}
 use Rattle.engine.specs.Registers.{next_stops, next_chunk, moved_by, to_come}
 use Rattle.engine.specs.Configure.{why_not, configured}
-use Rattle.engine.specs.Run.{Progress, pass_by, repeat_by}
+use Rattle.engine.specs.Run.{Progress, pass_by, repeat_by, Verdict}
 use Rattle.engine.specs.Sheets.{body_at, names, operations_from, run}
 use Rattle.engine.specs.Table.{done, refusal, answer_of, answer, register, prepared, addresses, copies, grown, triangle, words, twice, bytes}
 use Rattle.engine.specs.declared.register.Register.{Register}
-use Rattle.engine.specs.declared.run.Verdict.{Verdict}
-use Rattle.engine.specs.declared.run.Verdict.TheVariants.{Done, Refused}
 
 -- ---- sheets
 
@@ -143,8 +141,8 @@ limits = (refl, refl, refl, refl, refl, refl, refl, refl)
 
 -- of a verdict its number and, of a refusal, lane and operand
 unfoldable pub fault_of : Verdict → List ℕ
-fault_of Done = 0 ∷ []
-fault_of (Refused x place) = number_of x ∷ lane_of x ∷ operand_of x ∷ []
+fault_of (Ok _) = 0 ∷ []
+fault_of (Err x) = number_of x.refusal ∷ lane_of x.refusal ∷ operand_of x.refusal ∷ []
 
 -- of a run
 unfoldable pub fault : Progress → List ℕ

@@ -1,21 +1,15 @@
 -- The checks of a shape by itself, for any shape whatever.
 --
---   some                                whether a test holds of some member of a list
 --   too_large, far_moved, misplaced_in     a size, a displacement or a place of a modifier out of range
 --   shape_checks, check_shape             the checks, and the first that applies
-use Rattle.std.specs.Prelude.{ℕ, Bool, false, ◌||◌, List, [], ◌∷◌, ◌==◌, nat_le, nat_lt}
+use Rattle.std.specs.Prelude.{ℕ, Bool, ◌||◌, List, [], ◌∷◌, ◌==◌, nat_le, nat_lt}
+use Rattle.std.specs.List.{list_any}
 use Rattle.codec.specs.declared.refusal.Refusal.TheVariants.{OutOfRange, TooMany, Misplaced, LowHigh, Product}
 use Rattle.engine.specs.Loops.{modifiers_of}
 use Rattle.engine.specs.Rules.{low_or_high, highs_of, product}
-use Rattle.engine.specs.Checks.{Check, ◌if◌, first_of}
-use Rattle.engine.specs.declared.check.Why.{Why}
+use Rattle.engine.specs.Checks.{Check, ◌if◌, first_of, Why}
 use Rattle.engine.specs.declared.stream.Modifier.{Modifier}
 use Rattle.engine.specs.declared.stream.Shape.{Shape}
-
--- whether a test holds of some member of a list
-unfoldable pub some : {A : Type 0} → (A → Bool) → List A → Bool
-some p [] = false
-some p (x ∷ xs) = p x || some p xs
 
 -- "dimension size | 0 to 4,096": a size is out of that range
 abbrev pub too_large : ℕ → Bool
@@ -34,8 +28,8 @@ misplaced_in dims m = nat_le m.owner m.target || nat_le dims m.owner
 abbrev pub shape_checks : Shape → List Check
 shape_checks s =
     TooMany if (nat_lt 7 s.dims || nat_lt 8 s.mods)
-    ∷ OutOfRange if (some too_large s.sizes || some far_moved (modifiers_of s))
-    ∷ Misplaced if (s.dims == 0 || some (misplaced_in s.dims) (modifiers_of s))
+    ∷ OutOfRange if (list_any too_large s.sizes || list_any far_moved (modifiers_of s))
+    ∷ Misplaced if (s.dims == 0 || list_any (misplaced_in s.dims) (modifiers_of s))
     ∷ LowHigh if low_or_high s
     ∷ Product if nat_lt 1048576 (product (highs_of s))
     ∷ []

@@ -9,20 +9,17 @@
 --   run-lengths, run_ends                     the answer of a sheet, by its lengths and by how its operations end
 --   from-good, run-good                       the registers that a sheet leaves are good
 --   Passes, run-passes                        a sheet that ends in a run
-use Rattle.std.specs.Prelude.{◌≡◌, ℕ, zero, suc, ◌-◌, ◌<◌, ◌≤◌, Bool, true, false, cond, ◌&&◌, ◌||◌, List, [], ◌∷◌, length, nat_le, nat_lt, refl}
+use Rattle.std.specs.Prelude.{◌≡◌, ℕ, zero, suc, ◌-◌, ◌<◌, ◌≤◌, Bool, true, false, cond, ◌&&◌, ◌||◌, List, [], ◌∷◌, length, nat_le, nat_lt, refl, Ok, Err}
 use Rattle.std.proofs.Common.{sym, ◌∙◌, ap, subst, arith, lt-ltb, le-ltb, ltb-true, ltb-false, leb-true}
 use Rattle.codec.specs.TestLaws.{both}
 use Rattle.codec.specs.NumberLaws.{AreBytes}
-use Rattle.codec.specs.Operations.{is_register, is_count, operation_in_range, calculation_in_range, operation_at, calculation_at}
+use Rattle.codec.specs.Operations.{is_register, is_count, operation_in_range, calculation_in_range, operation_at, calculation_at, Decoded, Body}
 use Rattle.codec.specs.OperationLaws.{operation-read, calculation-read}
 use Rattle.codec.specs.declared.number.Cursor.{Cursor}
 use Rattle.codec.specs.declared.operation.Operation.{Operation}
 use Rattle.codec.specs.declared.operation.Operation.TheVariants as op
-use Rattle.codec.specs.declared.operation.Decoded.{Decoded}
-use Rattle.codec.specs.declared.operation.Decoded.TheVariants as decoded
-use Rattle.codec.specs.declared.operation.Body.{Body}
-use Rattle.codec.specs.declared.operation.Body.TheVariants as body
 use Rattle.codec.specs.declared.refusal.Refusal.TheVariants.{OutOfRange, Lengths, LoopRegister}
+use Rattle.engine.specs.Checks.{Why}
 use Rattle.engine.specs.Registers.{is_finished, is_open, is_load, reg, fresh_machine}
 use Rattle.engine.specs.Configure.{why_not, configured}
 use Rattle.engine.specs.Calculate.{World}
@@ -34,11 +31,8 @@ use Rattle.engine.specs.CalculationLaws.{named}
 use Rattle.engine.specs.HistoryLaws.{AllNamed}
 use Rattle.engine.specs.EndLaws.{Running, running-begun, execute-finishes, execute-good}
 use Rattle.engine.specs.AllowedLaws.{fits-allowed}
-use Rattle.engine.specs.declared.check.Why.{Why}
-use Rattle.engine.specs.declared.check.Why.TheVariants.{Nothing, Because}
 use Rattle.engine.specs.declared.register.Machine.{Machine}
 use Rattle.engine.specs.declared.run.Placed.{Placed}
-use Rattle.engine.specs.declared.run.Verdict.TheVariants.{Done}
 
 -- ---- the bound
 
@@ -57,21 +51,21 @@ operations-turn n s at m h =
 
 -- what follows an operation matters only on the machine that it leaves
 operation-same : (w : Why) (place : ℕ) (m n : Machine) (f g : Machine → Prepared) → f n ≡ g n → on_operation w place m f n ≡ on_operation w place m g n
-operation-same Nothing place m n f g e = e
-operation-same (Because x) place m n f g e = refl
+operation-same (Ok _) place m n f g e = e
+operation-same (Err x) place m n f g e = refl
 
 -- what follows an operation matters only from the place behind it on
 decoded-same : (s : List ℕ) (at : ℕ) (m : Machine) (d : Decoded) (f g : ℕ → Machine → Prepared)
-    → ((o : Operation) (c : Cursor) (n : Machine) → d ≡ decoded.Operation o c → f c.at n ≡ g c.at n) → on_decoded s at m d f ≡ on_decoded s at m d g
-decoded-same s at m (decoded.Refused x place) f g h = refl
-decoded-same s at m (decoded.Operation (op.Run loop count) c) f g h = refl
-decoded-same s at m (decoded.Operation (op.Open k b) c) f g h =
+    → ((o : Operation) (c : Cursor) (n : Machine) → d ≡ Ok (o, c) → f c.at n ≡ g c.at n) → on_decoded s at m d f ≡ on_decoded s at m d g
+decoded-same s at m (Err e) f g h = refl
+decoded-same s at m (Ok (op.Run loop count, c)) f g h = refl
+decoded-same s at m (Ok (op.Open k b, c)) f g h =
     operation-same (why_not (op.Open k b) m) at m (configured (op.Open k b) m) (f c.at) (g c.at) (h (op.Open k b) c (configured (op.Open k b) m) refl)
-decoded-same s at m (decoded.Operation (op.Dimension d) c) f g h =
+decoded-same s at m (Ok (op.Dimension d, c)) f g h =
     operation-same (why_not (op.Dimension d) m) at m (configured (op.Dimension d) m) (f c.at) (g c.at) (h (op.Dimension d) c (configured (op.Dimension d) m) refl)
-decoded-same s at m (decoded.Operation (op.Modifier d) c) f g h =
+decoded-same s at m (Ok (op.Modifier d, c)) f g h =
     operation-same (why_not (op.Modifier d) m) at m (configured (op.Modifier d) m) (f c.at) (g c.at) (h (op.Modifier d) c (configured (op.Modifier d) m) refl)
-decoded-same s at m (decoded.Operation (op.End i) c) f g h =
+decoded-same s at m (Ok (op.End i, c)) f g h =
     operation-same (why_not (op.End i) m) at m (configured (op.End i) m) (f c.at) (g c.at) (h (op.End i) c (configured (op.End i) m) refl)
 
 -- the bound is never felt: as many as there are bytes left are enough
@@ -83,7 +77,7 @@ read-on (suc n) (suc k) s at m p h l =
     (λ o c q e. let on : at < c.at = (operation-read s at o c p e).on in read-on n k s c.at q p (omega arith) (omega arith))
   where
     go : (b : Bool) → nat_lt at (length s) ≡ b
-        → ((o : Operation) (c : Cursor) (q : Machine) → operation_at s at ≡ decoded.Operation o c → operations_from n s c.at q ≡ operations_from k s c.at q)
+        → ((o : Operation) (c : Cursor) (q : Machine) → operation_at s at ≡ Ok (o, c) → operations_from n s c.at q ≡ operations_from k s c.at q)
         → operations_from (suc n) s at m ≡ operations_from (suc k) s at m
     go true e same =
         let z : at < length s = ltb-true at (length s) e in
@@ -146,8 +140,8 @@ body-read s (suc n) at cs to p e = go (calculation_at s at) refl e (λ next. bod
 
     go : (b : Body) → calculation_at s at ≡ b → on_calculation b at (body_at s n) ≡ whole cs to
         → ((next : ℕ) (ds : List Placed) (to : ℕ) → AreBytes s → body_at s n next ≡ whole ds to → (length ds ≡ n) × AllInRange ds) → (length cs ≡ suc n) × AllInRange cs
-    go (body.Refused x place) b q ih = absurd (let z : ◌≡◌ {A = ℕ} 0 1 = cc in omega arith)
-    go (body.Calculation c next) b q ih =
+    go (Err r) b q ih = absurd (let z : ◌≡◌ {A = ℕ} 0 1 = cc in omega arith)
+    go (Ok (c, next)) b q ih =
         after (record { place = at; calculation = c }) (body_at s n next.at) (calculation-read s at c next p b).range (λ ds end r. ih next.at ds end p r) q
 
 -- ---- what the operations of a sheet leave
@@ -197,28 +191,28 @@ ending-good s at loop m count (whole cs to) e h = go (nat_lt to (length s)) (is_
 
 -- an operation, refused or not, leaves that if what follows it does
 operation-good : (vl : ℕ) (w : Why) (place : ℕ) (m n : Machine) (f : Machine → Prepared) → AllGood vl m → Left vl (f n) → Left vl (on_operation w place m f n)
-operation-good vl Nothing place m n f g h = h
-operation-good vl (Because x) place m n f g h = record { good = g; follows = tt }
+operation-good vl (Ok _) place m n f g h = h
+operation-good vl (Err x) place m n f g h = record { good = g; follows = tt }
 
 -- whatever was read at a place leaves that, if what follows it does
 decoded-good : (vl : ℕ) (s : List ℕ) (at : ℕ) (m : Machine) (d : Decoded) (f : ℕ → Machine → Prepared) → AreBytes s → AllGood vl m
-    → ((o : Operation) (c : Cursor) → d ≡ decoded.Operation o c → operation_in_range o ≡ true) → ((to : ℕ) (n : Machine) → AllGood vl n → Left vl (f to n))
+    → ((o : Operation) (c : Cursor) → d ≡ Ok (o, c) → operation_in_range o ≡ true) → ((to : ℕ) (n : Machine) → AllGood vl n → Left vl (f to n))
     → Left vl (on_decoded s at m d f)
-decoded-good vl s at m (decoded.Refused x place) f p g r h = record { good = g; follows = tt }
-decoded-good vl s at m (decoded.Operation (op.Run loop count) c) f p g r h = record {
+decoded-good vl s at m (Err e) f p g r h = record { good = g; follows = tt }
+decoded-good vl s at m (Ok (op.Run loop count, c)) f p g r h = record {
   good = g;
   follows = ending-good s at loop m count (body_at s count c.at) (r (op.Run loop count) c refl) (λ cs to e. body-read s count c.at cs to p e);
 }
-decoded-good vl s at m (decoded.Operation (op.Open k b) c) f p g r h =
+decoded-good vl s at m (Ok (op.Open k b, c)) f p g r h =
     operation-good vl (why_not (op.Open k b) m) at m (configured (op.Open k b) m) (f c.at) g
     (h c.at (configured (op.Open k b) m) (configured-good vl (op.Open k b) m g (r (op.Open k b) c refl)))
-decoded-good vl s at m (decoded.Operation (op.Dimension d) c) f p g r h =
+decoded-good vl s at m (Ok (op.Dimension d, c)) f p g r h =
     operation-good vl (why_not (op.Dimension d) m) at m (configured (op.Dimension d) m) (f c.at) g
     (h c.at (configured (op.Dimension d) m) (configured-good vl (op.Dimension d) m g (r (op.Dimension d) c refl)))
-decoded-good vl s at m (decoded.Operation (op.Modifier d) c) f p g r h =
+decoded-good vl s at m (Ok (op.Modifier d, c)) f p g r h =
     operation-good vl (why_not (op.Modifier d) m) at m (configured (op.Modifier d) m) (f c.at) g
     (h c.at (configured (op.Modifier d) m) (configured-good vl (op.Modifier d) m g (r (op.Modifier d) c refl)))
-decoded-good vl s at m (decoded.Operation (op.End i) c) f p g r h =
+decoded-good vl s at m (Ok (op.End i, c)) f p g r h =
     operation-good vl (why_not (op.End i) m) at m (configured (op.End i) m) (f c.at) g
     (h c.at (configured (op.End i) m) (configured-good vl (op.End i) m g (r (op.End i) c refl)))
 
@@ -294,7 +288,7 @@ pub record Passes (m : Machine) (vl : ℕ) (s memory : List ℕ) (loop : ℕ) (c
   pub follows : Runs loop cs (prepare s m).machine
   pub running : Running vl loop cs (begun (world_of s m memory))
   pub executes : run_from m vl s memory ≡ execute vl loop cs (world_of s m memory)
-  pub finishes : (run_from m vl s memory).verdict ≡ Done → is_finished (reg (run_from m vl s memory).world.machine loop).state ≡ true
+  pub finishes : (run_from m vl s memory).verdict ≡ Ok tt → is_finished (reg (run_from m vl s memory).world.machine loop).state ≡ true
 
 -- such is every sheet of bytes whose lengths are allowed and whose operations end in a run
 pub run-passes : (m : Machine) (vl : ℕ) (s memory : List ℕ) (loop : ℕ) (cs : List Placed) → AreBytes s → AllGood vl m → allowed vl (length memory) ≡ true

@@ -5,24 +5,18 @@
 --   ending_of                 the run, once its body is read
 --   operations_from, prepare  the operations of a sheet, up to its end, its run or a refusal
 --   allowed, run_by, run_from, run    the sheet's answer
-use Rattle.std.specs.Prelude.{ℕ, zero, suc, ◌%◌, Bool, false, cond, ◌&&◌, ◌||◌, List, [], ◌∷◌, length, ◌==◌, nat_le, nat_lt}
-use Rattle.codec.specs.Operations.{operation_at, calculation_at}
+use Rattle.std.specs.Prelude.{ℕ, zero, suc, ◌%◌, Bool, false, cond, ◌&&◌, ◌||◌, List, [], ◌∷◌, length, ◌==◌, nat_le, nat_lt, Ok, Err}
+use Rattle.codec.specs.Operations.{operation_at, calculation_at, Decoded, Body}
 use Rattle.codec.specs.declared.operation.Operation.TheVariants as op
-use Rattle.codec.specs.declared.operation.Decoded.{Decoded}
-use Rattle.codec.specs.declared.operation.Decoded.TheVariants as decoded
-use Rattle.codec.specs.declared.operation.Body.{Body}
-use Rattle.codec.specs.declared.operation.Body.TheVariants as body
 use Rattle.codec.specs.declared.refusal.Refusal.{Refusal}
 use Rattle.codec.specs.declared.refusal.Refusal.TheVariants.{OutOfRange, Lengths, LoopRegister}
+use Rattle.engine.specs.Checks.{Why}
 use Rattle.engine.specs.Registers.{is_open, is_finished, is_load, reg, fresh_machine}
 use Rattle.engine.specs.Configure.{why_not, configured}
 use Rattle.engine.specs.Calculate.{World, refusal_of}
-use Rattle.engine.specs.Run.{Progress, Reason, begun, execute_by}
-use Rattle.engine.specs.declared.check.Why.{Why}
-use Rattle.engine.specs.declared.check.Why.TheVariants.{Nothing, Because}
+use Rattle.engine.specs.Run.{Progress, Reason, begun, execute_by, refusal_at}
 use Rattle.engine.specs.declared.register.Machine.{Machine}
 use Rattle.engine.specs.declared.run.Placed.{Placed}
-use Rattle.engine.specs.declared.run.Verdict.TheVariants.{Refused}
 
 -- a body read whole, with the place behind it, or its refusal
 pub data Calculations : Type 0 where
@@ -36,8 +30,8 @@ before c (broken x place) = broken x place
 
 -- a calculation that was read, with its place, before the rest of the body; or its refusal
 abbrev pub on_calculation : Body → ℕ → (ℕ → Calculations) → Calculations
-on_calculation (body.Refused x place) at rest = broken x place
-on_calculation (body.Calculation c next) at rest = before (record { place = at; calculation = c }) (rest next.at)
+on_calculation (Err e) at rest = broken e.refusal e.place
+on_calculation (Ok (c, next)) at rest = before (record { place = at; calculation = c }) (rest next.at)
 
 -- n calculations from a place on
 unfoldable pub body_at : List ℕ → ℕ → ℕ → Calculations
@@ -73,21 +67,21 @@ pub record Prepared : Type 0 where
 
 -- an operation that is refused ends the sheet there; one that is not is followed by the rest
 abbrev pub on_operation : Why → ℕ → Machine → (Machine → Prepared) → Machine → Prepared
-on_operation Nothing place m rest n = rest n
-on_operation (Because x) place m rest n = record { machine = m; ending = refused x place }
+on_operation (Ok _) place m rest n = rest n
+on_operation (Err x) place m rest n = record { machine = m; ending = refused x place }
 
 -- an operation as it was read: a refusal ends the sheet, a run its operations; any other is done before the rest
 abbrev pub on_decoded : List ℕ → ℕ → Machine → Decoded → (ℕ → Machine → Prepared) → Prepared
-on_decoded s at m (decoded.Refused x place) rest = record { machine = m; ending = refused x place }
-on_decoded s at m (decoded.Operation (op.Run loop count) next) rest =
+on_decoded s at m (Err e) rest = record { machine = m; ending = refused e.refusal e.place }
+on_decoded s at m (Ok (op.Run loop count, next)) rest =
     record { machine = m; ending = ending_of s at loop m (body_at s count next.at) }
-on_decoded s at m (decoded.Operation (op.Open h base) next) rest =
+on_decoded s at m (Ok (op.Open h base, next)) rest =
     on_operation (why_not (op.Open h base) m) at m (rest next.at) (configured (op.Open h base) m)
-on_decoded s at m (decoded.Operation (op.Dimension d) next) rest =
+on_decoded s at m (Ok (op.Dimension d, next)) rest =
     on_operation (why_not (op.Dimension d) m) at m (rest next.at) (configured (op.Dimension d) m)
-on_decoded s at m (decoded.Operation (op.Modifier d) next) rest =
+on_decoded s at m (Ok (op.Modifier d, next)) rest =
     on_operation (why_not (op.Modifier d) m) at m (rest next.at) (configured (op.Modifier d) m)
-on_decoded s at m (decoded.Operation (op.End i) next) rest =
+on_decoded s at m (Ok (op.End i, next)) rest =
     on_operation (why_not (op.End i) m) at m (rest next.at) (configured (op.End i) m)
 
 -- the operations from a place on, at most n of them. The bound is never felt, since each takes a byte at least: see `read-on` of SheetLaws
@@ -108,7 +102,7 @@ allowed vl len = nat_le 8 vl && nat_le vl 64 && vl % 8 == 0 && nat_le len 65536
 
 -- a refusal before the first pass: both counts are 0
 abbrev pub refused_at : World → Refusal → ℕ → Progress
-refused_at w x place = record { world = w; report = record { passes = 0; calculations = 0 }; verdict = Refused x place }
+refused_at w x place = record { world = w; report = record { passes = 0; calculations = 0 }; verdict = refusal_at x place }
 
 -- the run, unless an operation was refused
 abbrev pub on_ending_by : Reason → ℕ → World → Ending → Progress

@@ -9,20 +9,17 @@
 --   body-whole, body-broken, Breaks, body-either   a body: read whole, broken off; one of both
 --   turns-cut, bytes_cut                      in a sheet that is cut behind it, the same stands
 --   turns-bytes, body-bytes                   the bytes of what stands in a sheet, joined
-use Rattle.std.specs.Prelude.{◌≡◌, ℕ, zero, suc, ◌<◌, ◌≤◌, ◌⊎◌, List, [], ◌∷◌, ◌++◌, length, take, refl}
+use Rattle.std.specs.Prelude.{◌≡◌, ℕ, zero, suc, ◌<◌, ◌≤◌, ◌⊎◌, List, [], ◌∷◌, ◌++◌, length, take, refl, Ok, Err}
 use Rattle.std.proofs.Common.{sym, ◌∙◌, subst, inl, inr, arith}
 use Rattle.std.proofs.Math.Path.{ap}
 use Rattle.codec.specs.NumberLaws.{AreBytes, Stands, stands-join}
 use Rattle.codec.specs.StandingLaws.{stands-none, stands-cut}
-use Rattle.codec.specs.Operations.{calculation_at}
+use Rattle.codec.specs.Operations.{calculation_at, Body}
 use Rattle.codec.specs.OperationLaws.{operation-read, calculation-read}
 use Rattle.codec.specs.declared.number.Cursor.{Cursor}
 use Rattle.codec.specs.declared.operation.Operation.{Operation}
 use Rattle.codec.specs.declared.operation.Operation.TheVariants as op
 use Rattle.codec.specs.declared.operation.Calculation.{Calculation}
-use Rattle.codec.specs.declared.operation.Decoded.TheVariants as decoded
-use Rattle.codec.specs.declared.operation.Body.{Body}
-use Rattle.codec.specs.declared.operation.Body.TheVariants as body
 use Rattle.codec.specs.declared.refusal.Refusal.{Refusal}
 use Rattle.engine.specs.Registers.{reg}
 use Rattle.engine.specs.Configure.{register_of, why_not, configured}
@@ -34,7 +31,6 @@ use Rattle.engine.specs.Allowed.{Accepts}
 use Rattle.engine.specs.AllowedLaws.{accepts-clear}
 use Rattle.engine.specs.Promise1.{OperationAt, after, Turns, CalculationAt, BodyAt, UnreadCalculation, encodings, AllFree, body_bytes}
 use Rattle.engine.specs.ReadingLaws.{written_read, calculated-read, read-calculated, uncalculated-refused, refused-uncalculated}
-use Rattle.engine.specs.declared.check.Why.TheVariants.{Nothing, Because}
 use Rattle.engine.specs.declared.register.Machine.{Machine}
 use Rattle.engine.specs.declared.run.Placed.{Placed}
 
@@ -45,13 +41,13 @@ pub written_on : (s : List ℕ) (at : ℕ) (o : Operation) (to : ℕ) → AreByt
 written_on s at o to p h = ((operation-read s at o (record { at = to }) p (written_read s at o to h)).on, h.stands.within)
 
 -- one that is not refused is done
-operation-done : (at : ℕ) (o : Operation) (m : Machine) (f : Machine → Prepared) → why_not o m ≡ Nothing → on_operation (why_not o m) at m f (configured o m) ≡ f (after o m)
+operation-done : (at : ℕ) (o : Operation) (m : Machine) (f : Machine → Prepared) → why_not o m ≡ Ok tt → on_operation (why_not o m) at m f (configured o m) ≡ f (after o m)
 unfolding configured
 operation-done at o m f e = rw e
 
 -- one that configures and is not refused is followed by the rest
 pub decoded-done : (s : List ℕ) (at : ℕ) (m : Machine) (o : Operation) (c : Cursor) (rest : ℕ → Machine → Prepared) → Accepts o (reg m (register_of o))
-    → on_decoded s at m (decoded.Operation o c) rest ≡ rest c.at (after o m)
+    → on_decoded s at m (Ok (o, c)) rest ≡ rest c.at (after o m)
 decoded-done s at m (op.Open h b) c rest a = operation-done at (op.Open h b) m (rest c.at) ((accepts-clear (op.Open h b) m tt).1 a)
 decoded-done s at m (op.Dimension d) c rest a = operation-done at (op.Dimension d) m (rest c.at) ((accepts-clear (op.Dimension d) m tt).1 a)
 decoded-done s at m (op.Modifier d) c rest a = operation-done at (op.Modifier d) m (rest c.at) ((accepts-clear (op.Modifier d) m tt).1 a)
@@ -59,13 +55,13 @@ decoded-done s at m (op.End i) c rest a = operation-done at (op.End i) m (rest c
 decoded-done s at m (op.Run i n) c rest a = absurd a
 
 -- one that is refused ends the sheet
-operation-stopped : (at : ℕ) (o : Operation) (m : Machine) (f : Machine → Prepared) (x : Refusal) → why_not o m ≡ Because x
+operation-stopped : (at : ℕ) (o : Operation) (m : Machine) (f : Machine → Prepared) (x : Refusal) → why_not o m ≡ Err x
     → on_operation (why_not o m) at m f (configured o m) ≡ record { machine = m; ending = refused x at }
 operation-stopped at o m f x e = rw e
 
 -- the same, of any operation
 pub decoded-refused : (s : List ℕ) (at : ℕ) (m : Machine) (o : Operation) (c : Cursor) (rest : ℕ → Machine → Prepared) (x : Refusal)
-    → OperationRefused o (reg m (register_of o)) x → on_decoded s at m (decoded.Operation o c) rest ≡ record { machine = m; ending = refused x at }
+    → OperationRefused o (reg m (register_of o)) x → on_decoded s at m (Ok (o, c)) rest ≡ record { machine = m; ending = refused x at }
 decoded-refused s at m (op.Open h b) c rest x f = operation-stopped at (op.Open h b) m (rest c.at) x ((operation-refused (op.Open h b) m x).1 f)
 decoded-refused s at m (op.Dimension d) c rest x f = operation-stopped at (op.Dimension d) m (rest c.at) x ((operation-refused (op.Dimension d) m x).1 f)
 decoded-refused s at m (op.Modifier d) c rest x f = operation-stopped at (op.Modifier d) m (rest c.at) x ((operation-refused (op.Modifier d) m x).1 f)
@@ -74,7 +70,7 @@ decoded-refused s at m (op.Run i n) c rest x f = absurd f
 
 -- the sheet from an operation on
 pub onward-written : (s : List ℕ) (at : ℕ) (m : Machine) (o : Operation) (to : ℕ) → AreBytes s → OperationAt s at o to
-    → onward s at m ≡ on_decoded s at m (decoded.Operation o (record { at = to })) (onward s)
+    → onward s at m ≡ on_decoded s at m (Ok (o, record { at = to })) (onward s)
 onward-written s at m o to p h =
     let w = written_on s at o to p h in
     onward-next s at m p (omega arith) ∙ ap (λ d. on_decoded s at m d (onward s)) (written_read s at o to h)
@@ -183,9 +179,9 @@ body-either s (suc n) at p = go (calculation_at s at) refl (λ next. body-either
 
     go : (r : Body) → calculation_at s at ≡ r → ((next : ℕ) → ((cs : List Placed) × (to : ℕ) × BodyAt s next cs to × (length cs ≡ n)) ⊎ Breaks s n next)
         → ((cs : List Placed) × (to : ℕ) × BodyAt s at cs to × (length cs ≡ suc n)) ⊎ Breaks s (suc n) at
-    go (body.Calculation c next) e ih = joined c next.at (read-calculated s at c next p e) (ih next.at)
-    go (body.Refused x place) e ih =
-        inr (record { calculations = []; place = at; refusal = x; body = refl; fewer = omega arith; fault = (refused-uncalculated s at x place p e).1 })
+    go (Ok (c, next)) e ih = joined c next.at (read-calculated s at c next p e) (ih next.at)
+    go (Err r) e ih =
+        inr (record { calculations = []; place = at; refusal = r.refusal; body = refl; fewer = omega arith; fault = (refused-uncalculated s at r.refusal r.place p e).1 })
 
 -- ---- a sheet cut short
 

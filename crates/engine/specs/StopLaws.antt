@@ -14,7 +14,7 @@
 --   chunk-each                what holds of every stop holds of every stop of a chunk
 --   held-front                the first elements of a chunk are those of the chunk of fewer lanes
 --   chunk-full, chunk-none, next-held   at an element, and where there is none; one stop further
-use Rattle.std.specs.Prelude.{◌≡◌, ℕ, zero, suc, ◌+◌, ◌-◌, ◌<◌, ◌≤◌, min, Bool, true, false, cond, not, List, [], ◌∷◌, ◌++◌, map, length, get_or, take, drop, replicate, nat_lt, slice_index, slice_index_or}
+use Rattle.std.specs.Prelude.{◌≡◌, ℕ, zero, suc, ◌+◌, ◌-◌, ◌<◌, ◌≤◌, min, Bool, true, false, cond, not, List, [], ◌∷◌, ◌++◌, map, length, get_or, take, drop, replicate, nat_lt, slice_index, slice_index_or, Option, Some, None}
 use Rattle.std.proofs.Math.Path.{refl, ap}
 use Rattle.std.proofs.Common.{sym, ◌∙◌, ap₂, subst, add-zero, zero-add, length-append, length-take, length-drop, drop-drop, get_or-drop, get_or-take, take-take, take_all, lt-ltb, le-ltb, ltb-true, ltb-false}
 use native.Mathlib.Omega.{arith}
@@ -24,8 +24,6 @@ use Rattle.std.proofs.Math.ListN.{get_or-append, get_or-eq_default}
 use Rattle.std.proofs.Math.Seq.{drop-append-add, take-nil}
 use Rattle.std.proofs.lemmas.Bool.{not-false, not-true}
 use Rattle.codec.specs.TestLaws.{never, both, and_both}
-use Rattle.codec.specs.declared.header.Coupling.{Coupling}
-use Rattle.codec.specs.declared.header.Coupling.TheVariants.{Uncoupled, Coupled}
 use Rattle.engine.specs.Configure.{Covers}
 use Rattle.engine.specs.Loops.{size_at, join, loops, elements}
 use Rattle.engine.specs.Chunks.{passes, or_one, pass_stops, stops_in, stops, is_element, elements_among, held_in, nothing_at, with_elements, grouped, groups, left_after, next_group, chunk_of, stream_groups, chunk}
@@ -248,15 +246,15 @@ module _ (size : ℕ → List ℕ → ℕ) where
   among-passes c (o ∷ os) h = ap₂ ◌∷◌ (among-pass c o (h 0 (omega arith))) (among-passes c os (λ k p. h (suc k) (omega arith)))
 
 -- uncoupled, the stops are the elements
-pub stops-uncoupled : (s : Shape) → s.coupling ≡ Uncoupled → stops s ≡ elements s
+pub stops-uncoupled : (s : Shape) → s.coupling ≡ None → stops s ≡ elements s
 unfolding stops_in elements
 stops-uncoupled s e = ap (stops_in (size_at s) s.dims) e
 
 -- the elements among the stops are the elements, in order
-pub stops_in-elements : (size : ℕ → List ℕ → ℕ) (D : ℕ) (k : Coupling) → Covers D k → elements_among size (stops_in size D k) ≡ loops size 0 D []
+pub stops_in-elements : (size : ℕ → List ℕ → ℕ) (D : ℕ) (k : Option ℕ) → Covers D k → elements_among size (stops_in size D k) ≡ loops size 0 D []
 unfolding stops_in passes
-stops_in-elements size D Uncoupled h = among-all size (loops size 0 D []) (loops-elements size D)
-stops_in-elements size D (Coupled c) h =
+stops_in-elements size D None h = among-all size (loops size 0 D []) (loops-elements size D)
+stops_in-elements size D (Some c) h =
     among-join size (map (pass_stops size c) (loops size c (D - c) []))
     ∙ ap join (among-passes size c (loops size c (D - c) []) (outer-reached size c (D - c)))
     ∙ passes-join size c D h
@@ -275,10 +273,10 @@ each-join a b f P [] h = λ j p. absurd (omega arith)
 each-join a b f P (o ∷ os) h = each_append a P (f o) (join (map f os)) (h 0 (omega arith)) (each-join a b f P os (λ k p. h (suc k) (omega arith)))
 
 -- a stop has an index for each dimension
-pub stops_in-length : (size : ℕ → List ℕ → ℕ) (D : ℕ) (k : Coupling) → Covers D k → Each [] (λ v. length v ≡ D) (stops_in size D k)
+pub stops_in-length : (size : ℕ → List ℕ → ℕ) (D : ℕ) (k : Option ℕ) → Covers D k → Each [] (λ v. length v ≡ D) (stops_in size D k)
 unfolding stops_in
-stops_in-length size D Uncoupled h = λ j p. loops-length size 0 D [] j p ∙ add-zero D
-stops_in-length size D (Coupled c) h =
+stops_in-length size D None h = λ j p. loops-length size 0 D [] j p ∙ add-zero D
+stops_in-length size D (Some c) h =
     each-join [] [] (pass_stops size c) (λ v. length v ≡ D) (loops size c (D - c) [])
     (λ j p i q. omega (arith, pass-length size c (slice_index_or (loops size c (D - c) []) j []) i q, loops-length size c (D - c) [] j p))
 
@@ -298,10 +296,10 @@ under-zeros s d (suc c) outer h u =
     under-zero s d (omega arith) (replicate c 0 ++ outer) (under-zeros s (suc d) c outer (omega arith) (subst (λ e. Under s e outer) (next_place d c) u))
 
 -- no index of a stop passes the last one by its high
-pub each-under : (s : Shape) (k : Coupling) → Covers s.dims k → Each [] (Under s 0) (stops_in (size_at s) s.dims k)
+pub each-under : (s : Shape) (k : Option ℕ) → Covers s.dims k → Each [] (Under s 0) (stops_in (size_at s) s.dims k)
 unfolding stops_in elements
-each-under s Uncoupled h = λ j p. at_under s j
-each-under s (Coupled c) h =
+each-under s None h = λ j p. at_under s j
+each-under s (Some c) h =
     each-join [] [] (pass_stops (size_at s) c) (Under s 0) (loops (size_at s) c (s.dims - c) [])
     (λ j p.
     let o : List ℕ = get_or (loops (size_at s) c (s.dims - c) []) j [] in
@@ -359,9 +357,9 @@ left-kind z is (g ∷ gs) k n h = go (dec_lt n (length g)) (k 0 (omega arith)) (
         rw (get_d_past z g (join gs) n (omega arith), le-ltb n (length g) (omega arith)) m
 
 -- the groups of a stream are of one kind each
-pub groups-kind : (size : ℕ → List ℕ → ℕ) (D : ℕ) (k : Coupling) → Each [] (OneKind [] (is_element size 0)) (grouped size D k)
-groups-kind size D Uncoupled = each-one [] (OneKind [] (is_element size 0)) (loops size 0 D []) (all (loops-elements size D))
-groups-kind size D (Coupled c) = λ j h.
+pub groups-kind : (size : ℕ → List ℕ → ℕ) (D : ℕ) (k : Option ℕ) → Each [] (OneKind [] (is_element size 0)) (grouped size D k)
+groups-kind size D None = each-one [] (OneKind [] (is_element size 0)) (loops size 0 D []) (all (loops-elements size D))
+groups-kind size D (Some c) = λ j h.
     let os : List (List ℕ) = loops size c (D - c) [] in
     let p : j < length os = omega (arith, length-map os (pass_stops size c)) in
     subst (OneKind [] (is_element size 0)) (sym (get_d_map (pass_stops size c) os j [] [] p)) (go (slice_index_or os j []) (outer-reached size c (D - c) j p) (pass-view size c (slice_index_or os j [])))

@@ -4,14 +4,12 @@
 --   size-held, size-some, size-nothing   the innermost size of its place: that of its pass, or 0 if it is no element
 --   inner_below               the innermost index of an element is below the innermost size
 --   row_next                  where its row has another element, it is the next stop
-use Rattle.std.specs.Prelude.{◌≡◌, ℕ, zero, suc, ◌+◌, ◌-◌, ◌<◌, ◌≤◌, Bool, true, false, cond, not, List, [], ◌∷◌, ◌++◌, map, length, get_or, take, drop, replicate, ◌==◌, nat_lt, slice_index, slice_index_or, slice_set}
+use Rattle.std.specs.Prelude.{◌≡◌, ℕ, zero, suc, ◌+◌, ◌-◌, ◌<◌, ◌≤◌, Bool, true, false, cond, not, List, [], ◌∷◌, ◌++◌, map, length, get_or, take, drop, replicate, ◌==◌, nat_lt, slice_index, slice_index_or, slice_set, Option, Some, None}
 use Rattle.std.proofs.Math.Path.{refl, ap}
 use Rattle.std.proofs.Common.{sym, ◌∙◌, subst, arith, add-one, length-set, drop-set-lt, get_or-set_same, lt-ltb, eq-eqb, ne_eqb}
 use Rattle.std.proofs.Math.Seq.{take-append_seam}
 use Rattle.std.proofs.lemmas.Bool.{not-false}
 use Rattle.codec.specs.TestLaws.{never, both, and_both}
-use Rattle.codec.specs.declared.header.Coupling.{Coupling}
-use Rattle.codec.specs.declared.header.Coupling.TheVariants.{Uncoupled, Coupled}
 use Rattle.engine.specs.Loops.{size_at, join, elements}
 use Rattle.engine.specs.Chunks.{stops, pass_stops, is_element, nothing_at}
 use Rattle.engine.specs.Registers.{index_of}
@@ -123,8 +121,8 @@ module _ (s : Shape) (y : Accepted s) (k : ℕ) (q : k < length (stops s)) (v : 
       ∙ at-found (size_at s) 0 n u (omega (arith, seven, length-set v 0 (slice_index v 0 + 1))) (omega (arith, a, ap (size_at s 0) b))
 
   -- what comes after the stop begins with it
-  begins : (c : Coupling) → s.coupling ≡ c → (l : List (List ℕ)) × (map index_of (drop (suc k) (stops s)) ≡ further v ∷ l)
-  begins Uncoupled f =
+  begins : (c : Option ℕ) → s.coupling ≡ c → (l : List (List ℕ)) × (map index_of (drop (suc k) (stops s)) ≡ further v ∷ l)
+  begins None f =
       let u : stops s ≡ elements s = stops-uncoupled s f in (
         after (size_at s) 0 s.dims (further v),
         ap (λ l. map index_of (drop (suc k) l)) u
@@ -132,7 +130,7 @@ module _ (s : Shape) (y : Accepted s) (k : ℕ) (q : k < length (stops s)) (v : 
             ∙ ap (after (size_at s) 0 s.dims) (ap (λ l. index_of (slice_index_or l k [])) (sym u) ∙ sym e)
             ∙ found s.dims,
       )
-  begins (Coupled c) f =
+  begins (Some c) f =
       let p = passing s y c f in
       let b : bare (size_at s) c (drop c v) ≡ false = ap (λ w. bare (size_at s) c (drop c w)) e ∙ sym (nothing-bare s c p k q) ∙ t in
       let ws : List (List ℕ) = join (map (pass_stops (size_at s) c) (passes_after (size_at s) c s.dims (drop c v))) in (

@@ -10,7 +10,7 @@
 --   nothing-bare                 a stop is no element exactly if its pass holds none
 --   nothing-uncoupled            uncoupled, every stop is an element
 --   index-stop, index-within, here-under, here-small   a stop's seven indices are under the highs, and so below 4,096
-use Rattle.std.specs.Prelude.{◌≡◌, ℕ, suc, ◌+◌, ◌-◌, ◌<◌, ◌≤◌, Bool, true, false, cond, not, List, [], ◌∷◌, ◌++◌, map, length, get_or, drop, replicate, nat_le, slice_index, slice_index_or, slice_set}
+use Rattle.std.specs.Prelude.{◌≡◌, ℕ, suc, ◌+◌, ◌-◌, ◌<◌, ◌≤◌, Bool, true, false, cond, not, List, [], ◌∷◌, ◌++◌, map, length, get_or, drop, replicate, nat_le, slice_index, slice_index_or, slice_set, Some, None}
 use Rattle.std.proofs.Math.Path.{refl, sym, ap, ap₂, subst}
 use Rattle.std.proofs.Common.{◌∙◌, length-append, drop_at, lt-ltb, le-ltb, leb-true}
 use mathlib.Core.List.{map-append, append_assoc}
@@ -21,7 +21,6 @@ use Rattle.std.proofs.lemmas.List.{drop-append-le}
 use Rattle.std.proofs.Math.Seq.{drop-append-add}
 use Rattle.codec.specs.TestLaws.{both}
 use Rattle.codec.specs.Headers.{coupling_in_range}
-use Rattle.codec.specs.declared.header.Coupling.TheVariants.{Uncoupled, Coupled}
 use Rattle.engine.specs.Loops.{size_at, join, loops, elements}
 use Rattle.engine.specs.Chunks.{or_one, pass_stops, stops_in, stops, is_element, nothing_at}
 use Rattle.engine.specs.Configure.{Covers}
@@ -158,17 +157,17 @@ passes-next size c n v p h = rw (lt-ltb c n p) (sym (at_after size c n v h))
 
 -- a stream coupled to dimension c, one of its dimensions, counted from 1
 pub record Passing (s : Shape) (c : ℕ) : Type 0 where
-  pub coupled : s.coupling ≡ Coupled c
+  pub coupled : s.coupling ≡ Some c
   pub some : 1 ≤ c
   pub within : c ≤ s.dims
   pub most : s.dims ≤ 7
 
 -- an accepted one is
-pub passing : (s : Shape) → Accepted s → (c : ℕ) → s.coupling ≡ Coupled c → Passing s c
+pub passing : (s : Shape) → Accepted s → (c : ℕ) → s.coupling ≡ Some c → Passing s c
 passing s a c e = record {
   coupled = e;
   some = leb-true 1 c (both (nat_le 1 c) (nat_le c 7) (subst (λ k. coupling_in_range k ≡ true) e a.coupled)).0;
-  within = covered s (Coupled c) (subst (λ k. Rattle.engine.specs.Configure.uncovered s k ≡ false) e a.covered);
+  within = covered s (Some c) (subst (λ k. Rattle.engine.specs.Configure.uncovered s k ≡ false) e a.covered);
   most = a.ranged.dims;
 }
 
@@ -327,7 +326,7 @@ module _ (s : Shape) (c : ℕ) (p : Passing s c) where
       ∙ ap (bare (size_at s) c) (sym a.behind)
 
 -- uncoupled, every stop is an element
-pub nothing-uncoupled : (s : Shape) → s.coupling ≡ Uncoupled → (k : ℕ) → k < length (stops s) → nothing_at s k ≡ false
+pub nothing-uncoupled : (s : Shape) → s.coupling ≡ None → (k : ℕ) → k < length (stops s) → nothing_at s k ≡ false
 unfolding nothing_at elements
 nothing-uncoupled s e k h =
     let u : stops s ≡ elements s = stops-uncoupled s e in

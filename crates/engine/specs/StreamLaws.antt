@@ -9,7 +9,7 @@
 --   shut-idle, unnamed-idle            one that is not open, or not named, moves nothing
 --   read_some                          a load that is read goes past at least one stop
 --   not-destination, unnamed           an open load is no destination; where it is no source either, it stays
-use Rattle.std.specs.Prelude.{◌≡◌, ℕ, ◌+◌, ◌<◌, ◌≤◌, Bool, true, false, cond, not, ◌&&◌, ◌||◌, List, [], ◌++◌, length, take, ◌==◌, nat_eq}
+use Rattle.std.specs.Prelude.{◌≡◌, ℕ, ◌+◌, ◌<◌, ◌≤◌, Bool, true, false, cond, not, ◌&&◌, ◌||◌, List, [], ◌++◌, length, take, ◌==◌, nat_eq, Ok}
 use Rattle.std.proofs.Math.Path.{refl, ap}
 use Rattle.std.proofs.Common.{sym, ◌∙◌, subst, arith, take-take, length-take-le, eqb-true}
 use Rattle.codec.specs.TestLaws.{never, and-false, both, and_left, and_right, and_both}
@@ -21,7 +21,6 @@ use Rattle.engine.specs.Good.{Good}
 use Rattle.engine.specs.ComeLaws.{come-holding, come-moved-holding, split, next-front, next-some, past-chunk, past-most, IsStream, stream-moved}
 use Rattle.engine.specs.CalculationLaws.{checked}
 use Rattle.engine.specs.EffectLaws.{effect-reg, read-open, read-shut, written-open, written-shut, open-store, room}
-use Rattle.engine.specs.declared.check.Why.TheVariants.{Nothing}
 use Rattle.engine.specs.declared.register.Register.{Register}
 
 -- the stops of register i that a calculation goes past: of the open store that is the destination, as many as the result's lanes go past;
@@ -102,7 +101,7 @@ module _ (vl : ℕ) (c : Calculation) (w : World) (i : ℕ) where
       (and_right (open_load (reg w.machine i)) (i == c.first || i == c.second) s)
 
   -- the ways that a register can go
-  pub goes : (P : Register → List (List ℕ) → Type 0) → i < length w.machine.registers → refusal_of vl c w ≡ Nothing → Ways vl c w i P
+  pub goes : (P : Register → List (List ℕ) → Type 0) → i < length w.machine.registers → refusal_of vl c w ≡ Ok tt → Ways vl c w i P
       → P (reg (effect vl c w).machine i) (moved_in vl c w i)
   goes P h e ways = go (i == c.destination) refl (i == c.first || i == c.second) refl (is_open r.state) refl (effect-reg vl c w i h)
     where
@@ -139,7 +138,7 @@ module _ (vl : ℕ) (c : Calculation) (w : World) (i : ℕ) where
       go false d true q false o a = by _ _ ways.idle (a ∙ read-shut vl w.memory r o) (shut-idle o)
       go false d false q o p a = by _ _ ways.idle a (unnamed-idle d q)
 
-module _ (vl : ℕ) (c : Calculation) (w : World) (i : ℕ) (h : i < length w.machine.registers) (e : refusal_of vl c w ≡ Nothing) where
+module _ (vl : ℕ) (c : Calculation) (w : World) (i : ℕ) (h : i < length w.machine.registers) (e : refusal_of vl c w ≡ Ok tt) where
   -- the stops of a register that a calculation goes past, then those to come, are those that were to come
   pub once : 8 ≤ vl → Good vl (reg w.machine i) → moved_in vl c w i ++ to_come (reg (effect vl c w).machine i) ≡ to_come (reg w.machine i)
   once z g =
@@ -224,7 +223,7 @@ read_some vl c w i h g o s =
     subst (λ l. 0 < length l) (sym (load_moves vl c w i o s)) (next-some vl r h g (both (is_open r.state) (is_load r.kind) o).0)
 
 -- no calculation that is not refused has an open load as its destination
-pub not-destination : (vl : ℕ) (c : Calculation) (w : World) (i : ℕ) → refusal_of vl c w ≡ Nothing → open_load (reg w.machine i) ≡ true
+pub not-destination : (vl : ℕ) (c : Calculation) (w : World) (i : ℕ) → refusal_of vl c w ≡ Ok tt → open_load (reg w.machine i) ≡ true
     → (i == c.destination) ≡ false
 not-destination vl c w i e o = go (i == c.destination) refl
   where
@@ -235,6 +234,6 @@ not-destination vl c w i e o = go (i == c.destination) refl
         never (sym (checked vl c w e).destination-kind ∙ k)
 
 -- an open load that is no source stays as it was
-pub unnamed : (vl : ℕ) (c : Calculation) (w : World) (i : ℕ) → i < length w.machine.registers → refusal_of vl c w ≡ Nothing
+pub unnamed : (vl : ℕ) (c : Calculation) (w : World) (i : ℕ) → i < length w.machine.registers → refusal_of vl c w ≡ Ok tt
     → open_load (reg w.machine i) ≡ true → (i == c.first || i == c.second) ≡ false → reg (effect vl c w).machine i ≡ reg w.machine i
 unnamed vl c w i h e o s = effect-reg vl c w i h ∙ no_way _ _ _ _ _ (not-destination vl c w i e o) s

@@ -1,47 +1,34 @@
 -- What is done at a list of addresses.
 --
 --   progression                          addresses a step apart
---   addresses_in, joined_in, Part, Parts   the addresses of a part of a chunk, of all its parts; parts that are far from overflowing
+--   addresses_in, joined_in              the addresses of a part of a chunk, of all its parts
 --   addresses_of                          the addresses of elements
 --   all_within, lane_without, checked_at    every address lies inside memory; the first lane whose address does not; one or the other
 --   fetched_at, stored_at                  the values there; memory after lanes were written there
 --   within-elements, lane-elements, fetched-elements, stored-elements   at the addresses of elements: what a calculation says of the elements
-use Rattle.std.specs.Prelude.{◌≡◌, ℕ, zero, suc, ◌^◌, ◌<◌, ◌≤◌, Bool, true, cond, ◌&&◌, List, [], ◌∷◌, ◌++◌, map, length, get_or, ℤ, pos, ◌+ℤ◌, slice_index_or, unsigned_abs, refl}
+use Rattle.std.specs.Prelude.{◌≡◌, ℕ, zero, suc, Bool, true, cond, ◌&&◌, List, [], ◌∷◌, ◌++◌, map, ℤ, ◌+ℤ◌, refl, Option, Some, None}
 use Rattle.std.proofs.Common.{ap}
 use Rattle.std.proofs.lemmas.List.Edits.{sets}
 use Rattle.engine.specs.Loops.{natural}
 use Rattle.engine.specs.Addresses.{address, inside}
 use Rattle.engine.specs.Memory.{value_at, little_endian, spot, fetch, stored}
 use Rattle.engine.specs.Calculate.{all_inside, lane_outside}
+use Rattle.engine.specs.declared.part.Part.{Part}
 use Rattle.engine.specs.declared.stream.Pattern.{Pattern}
-use Rattle.engine.specs.declared.transfer.Addresses.{Addresses}
-use Rattle.engine.specs.declared.transfer.Addresses.TheVariants.{Inside, Outside}
 
 -- n addresses from a on, a step apart
 unfoldable pub progression : ℤ → ℤ → ℕ → List ℤ
 progression a step zero = []
 progression a step (suc n) = a ∷ progression (a +ℤ step) step n
 
--- the addresses of a part of a chunk, elements of one row, which is three numbers: its first address, its step and how many there are
-abbrev pub addresses_in : List ℤ → List ℤ
-addresses_in part = progression (slice_index_or part 0 (pos 0)) (slice_index_or part 1 (pos 0)) (natural (slice_index_or part 2 (pos 0)))
+-- the addresses of a part of a chunk, elements of one row
+abbrev pub addresses_in : Part → List ℤ
+addresses_in part = progression part.start.0 part.step.0 part.count
 
 -- the addresses of parts, one part after the other
-unfoldable pub joined_in : List (List ℤ) → List ℤ
+unfoldable pub joined_in : List Part → List ℤ
 joined_in [] = []
 joined_in (part ∷ rest) = addresses_in part ++ joined_in rest
-
--- a part that is far from overflowing
-pub record Part (part : List ℤ) : Type 0 where
-  pub start : unsigned_abs (slice_index_or part 0 (pos 0)) ≤ 2 ^ 55
-  pub step : unsigned_abs (slice_index_or part 1 (pos 0)) ≤ 2 ^ 51
-  pub count : natural (slice_index_or part 2 (pos 0)) ≤ 64
-  pub counted : get_or part 2 (pos 0) ≡ pos (natural (slice_index_or part 2 (pos 0)))
-  pub three : length part ≡ 3
-
--- the first m rows of an array are such parts
-abbrev pub Parts : ℕ → List (List ℤ) → Type 0
-Parts m rows = (m ≤ 64) × ((k : ℕ) → k < m → Part (slice_index_or rows k []))
 
 -- the addresses of elements, in their order
 abbrev pub addresses_of : Pattern → ℕ → List (List ℕ) → List ℤ
@@ -58,8 +45,8 @@ lane_without length width [] = 0
 lane_without length width (a ∷ rest) = cond (inside length width a) (suc (lane_without length width rest)) 0
 
 -- the address check: every address lies inside memory, or the first lane whose address does not
-abbrev pub checked_at : ℕ → ℕ → List ℤ → Addresses
-checked_at length width l = cond (all_within length width l) Inside (Outside (lane_without length width l))
+abbrev pub checked_at : ℕ → ℕ → List ℤ → Option ℕ
+checked_at length width l = cond (all_within length width l) None (Some (lane_without length width l))
 
 -- the values at addresses
 abbrev pub fetched_at : List ℕ → ℕ → List ℤ → List ℕ

@@ -6,15 +6,14 @@
 --   copies, triangle .. three             the sheets
 --   rows                                  the starred rows, together
 --   examples                              others of 01
-use Rattle.std.specs.Prelude.{◌≡◌, ℕ, zero, suc, List, [], ◌∷◌, ◌++◌, map, length, ℤ, pos, refl}
+use Rattle.std.specs.Prelude.{◌≡◌, ℕ, zero, suc, List, [], ◌∷◌, ◌++◌, map, length, ℤ, pos, refl, Ok, true, false, Err, Result, Bool, None}
 use Rattle.codec.specs.Refusals.{number_of}
 use Rattle.codec.specs.Numbers.{groups_at, number_at, signed_of}
 use Rattle.codec.specs.Headers.{header_said, header_of}
 use Rattle.codec.specs.Operations.{open_at, dimension_at, modifier_at, end_at, run_at, operation_at, calculation_at}
+use Rattle.codec.specs.declared.refusal.Refusal.{Refusal}
 use Rattle.codec.specs.declared.header.Kind.TheVariants.{Load, Store}
 use Rattle.codec.specs.declared.header.Width.TheVariants.{W}
-use Rattle.codec.specs.declared.header.Coupling.TheVariants.{Uncoupled}
-use Rattle.codec.specs.declared.header.Word.TheVariants.{Said}
 use Rattle.engine.specs.Loops.{size_at, added, join, span, loops, elements}
 use Rattle.engine.specs.Chunks.{pass_stops, stops_in, is_element, elements_among, nothing_at, with_elements, groups, left_after, chunk_of, differ, height}
 use Rattle.engine.specs.Rules.{only, highs, low_or_high_from, product}
@@ -26,16 +25,12 @@ use Rattle.engine.specs.Checks.{first_of}
 use Rattle.engine.specs.Registers.{fresh_machine, reg, shape_of, next_stops, next_chunk, moved_by, to_come}
 use Rattle.engine.specs.Configure.{why_not, configured}
 use Rattle.engine.specs.Questions.{ask_flag, ask_end}
-use Rattle.engine.specs.Run.{Progress, begun, counted, pass, pass_by, repeat_by}
+use Rattle.engine.specs.Run.{Progress, begun, counted, pass, pass_by, repeat_by, Verdict}
 use Rattle.engine.specs.Sheets.{body_at, names, Ending, over, runs, refused, operations_from, prepare, run}
-use Rattle.engine.specs.declared.check.Told.{Told}
-use Rattle.engine.specs.declared.check.Told.TheVariants.{Yes, No, Untold}
 use Rattle.engine.specs.declared.register.Register.{Register}
 use Rattle.engine.specs.declared.register.Machine.{Machine}
 use Rattle.engine.specs.declared.run.Placed.{Placed}
 use Rattle.engine.specs.declared.run.Report.{Report}
-use Rattle.engine.specs.declared.run.Verdict.{Verdict}
-use Rattle.engine.specs.declared.run.Verdict.TheVariants.{Done, Refused}
 
 -- ---- answers
 
@@ -46,8 +41,8 @@ pub data Answer : Type 0 where
 
 -- the answer of a verdict and both counts, by 01's numbers
 unfoldable pub answer_of : Verdict → Report → Answer
-answer_of Done r = done r.passes r.calculations
-answer_of (Refused x place) r = refusal (number_of x) place r.passes r.calculations
+answer_of (Ok _) r = done r.passes r.calculations
+answer_of (Err x) r = refusal (number_of x.refusal) x.place r.passes r.calculations
 
 -- the answer of a run
 unfoldable pub answer : Progress → Answer
@@ -60,10 +55,10 @@ pub data Heard : Type 0 where
   untold : ℕ → Heard
 
 -- what is told, with a refusal's number
-unfoldable pub heard : Told → Heard
-heard Yes = yes
-heard No = no
-heard (Untold x) = untold (number_of x)
+unfoldable pub heard : Result Bool Refusal → Heard
+heard (Ok true) = yes
+heard (Ok false) = no
+heard (Err x) = untold (number_of x)
 
 -- what the question for the flag of dimension d of register i is told
 unfoldable pub asked_flag : Machine → ℕ → ℕ → Heard
@@ -194,8 +189,8 @@ pub rows :
     × (watched 16 2 (words ++ copies) (bytes 0 40) ≡ seen 0 no (untold 2) no ∷ seen 4 no (untold 2) no ∷ seen 1 yes (untold 2) yes ∷ [])
     × (answer (run 16 (words ++ copies) (bytes 0 40)) ≡ done 2 2)
     × (answer (run 16 (words ++ copies) (bytes 0 39)) ≡ refusal 14 15 1 1)
-    × (header_of 0x5608b ≡ Said (record { kind = Load; width = W; register = 1; coupling = Uncoupled }))
-    × (header_of 0x6218b ≡ Said (record { kind = Store; width = W; register = 3; coupling = Uncoupled }))
+    × (header_of 0x5608b ≡ Ok (record { kind = Load; width = W; register = 1; coupling = None }))
+    × (header_of 0x6218b ≡ Ok (record { kind = Store; width = W; register = 3; coupling = None }))
 unfolding answer_of answer heard asked_flag asked_end register prepared addresses seen looked_at trail trail_of watched
     copies grown triangle coupled shrunk square words bytes
     groups_at number_at signed_of header_said header_of open_at dimension_at modifier_at end_at run_at operation_at calculation_at

@@ -3,26 +3,23 @@
 --   completed-at   of calculations that are not refused, each is not, in the world that those before it left
 --   Turned         a run of its calculations in turn
 --   turned-one     two are the same
-use Rattle.std.specs.Prelude.{◌≡◌, ℕ, zero, suc, ◌/◌, ◌%◌, ◌<◌, ◌≤◌, List, [], ◌∷◌, length, get_or, take, ◌≢◌, slice_index_or, refl}
+use Rattle.std.specs.Prelude.{◌≡◌, ℕ, zero, suc, ◌/◌, ◌%◌, ◌<◌, ◌≤◌, List, [], ◌∷◌, length, get_or, take, ◌≢◌, slice_index_or, refl, Ok, Err}
 use Rattle.std.proofs.Common.{sym, ◌∙◌, ap, ap₂, arith, take_all, get_or-take, length-take-le, ext_get_or}
 use Rattle.std.proofs.Math.Decide.{dec_lt}
 use Rattle.codec.specs.declared.refusal.Refusal.{Refusal}
+use Rattle.engine.specs.Checks.{Why}
 use Rattle.engine.specs.Registers.{reg}
 use Rattle.engine.specs.Calculate.{World, refusal_of, effect}
-use Rattle.engine.specs.Run.{Progress}
+use Rattle.engine.specs.Run.{Progress, Verdict, refusal_at}
 use Rattle.engine.specs.HistoryLaws.{Completed, after_all}
 use Rattle.engine.specs.Histories.{no_placed, in_turn}
-use Rattle.engine.specs.declared.check.Why.{Why}
-use Rattle.engine.specs.declared.check.Why.TheVariants.{Nothing, Because}
 use Rattle.engine.specs.declared.register.State.{State}
 use Rattle.engine.specs.declared.register.State.TheVariants.{Open, Finished}
 use Rattle.engine.specs.declared.run.Placed.{Placed}
-use Rattle.engine.specs.declared.run.Verdict.{Verdict}
-use Rattle.engine.specs.declared.run.Verdict.TheVariants.{Done, Refused}
 
 -- each is not refused in the world that those before it left
 pub completed-at : (vl : ℕ) (cs : List Placed) (w : World) (k : ℕ) → Completed vl w cs → k < length cs
-    → refusal_of vl (get_or cs k no_placed).calculation (after_all vl w (take k cs)) ≡ Nothing
+    → refusal_of vl (get_or cs k no_placed).calculation (after_all vl w (take k cs)) ≡ Ok tt
 unfolding Completed after_all
 completed-at vl [] w k c h = absurd (omega arith)
 completed-at vl (d ∷ cs) w zero c h = c.0
@@ -37,9 +34,9 @@ pub record Turned (vl loop : ℕ) (body : List Placed) (w : World) (r : Progress
   pub count : r.report.calculations ≡ length calculations
   pub passes : r.report.passes ≡ length calculations / length body
   pub began : (k : ℕ) → k < length calculations → k % length body ≡ 0 → (reg (after_all vl w (take k calculations)).machine loop).state ≡ Open
-  pub done : r.verdict ≡ Done → (length calculations % length body ≡ 0) × ((reg r.world.machine loop).state ≡ Finished)
-  pub refused : (x : Refusal) (at : ℕ) → r.verdict ≡ Refused x at
-      → (refusal_of vl (in_turn body (length calculations)).calculation r.world ≡ Because x)
+  pub done : r.verdict ≡ Ok tt → (length calculations % length body ≡ 0) × ((reg r.world.machine loop).state ≡ Finished)
+  pub refused : (x : Refusal) (at : ℕ) → r.verdict ≡ refusal_at x at
+      → (refusal_of vl (in_turn body (length calculations)).calculation r.world ≡ Err x)
       × (at ≡ (in_turn body (length calculations)).place)
       × (length calculations % length body ≡ 0 → (reg r.world.machine loop).state ≡ Open)
 
@@ -50,7 +47,7 @@ no-open : (k : State) → k ≡ Finished → k ≢ Open
 no-open k p q = let z : ◌≡◌ {A = ℕ} 0 1 = cc in omega arith
 
 -- no refusal is none
-no-refusal : (y : Why) (x : Refusal) → y ≡ Nothing → y ≢ Because x
+no-refusal : (y : Why) (x : Refusal) → y ≡ Ok tt → y ≢ Err x
 no-refusal y x p q = let z : ◌≡◌ {A = ℕ} 0 1 = cc in omega arith
 
 module _ (vl loop : ℕ) (body : List Placed) (w : World) (r q : Progress) (t : Turned vl loop body w r) (u : Turned vl loop body w q) where
@@ -71,13 +68,13 @@ module _ (vl loop : ℕ) (body : List Placed) (w : World) (r q : Progress) (t : 
       e = t.world ∙ ap (after_all vl w) (front (omega arith))
 
       go : (v : Verdict) → r.verdict ≢ v
-      go Done v =
+      go (Ok _) v =
           let d = t.done v in
           no-open (reg r.world.machine loop).state d.1 (ap (λ x. (reg x.machine loop).state) e ∙ u.began n h d.0)
-      go (Refused x at) v =
-          no-refusal (refusal_of vl (in_turn body n).calculation r.world) x
+      go (Err x) v =
+          no-refusal (refusal_of vl (in_turn body n).calculation r.world) x.refusal
           (ap₂ (λ c y. refusal_of vl c.calculation y) (sym (u.turns n h)) e ∙ completed-at vl u.calculations w n u.completed h)
-          (t.refused x at v).0
+          (t.refused x.refusal x.place v).0
 
   -- two as long are the same
   even : length t.calculations ≡ length u.calculations → r ≡ q
@@ -96,20 +93,20 @@ module _ (vl loop : ℕ) (body : List Placed) (w : World) (r q : Progress) (t : 
       c = t.count ∙ h ∙ sym u.count
 
       go : (x : Verdict) → r.verdict ≡ x → (y : Verdict) → q.verdict ≡ y → x ≡ y
-      go Done d Done f = refl
-      go Done d (Refused y at) f =
+      go (Ok _) d (Ok _) f = refl
+      go (Ok _) d (Err y) f =
           let k = t.done d in
-          absurd (no-open (reg r.world.machine loop).state k.1 (ap (λ x. (reg x.machine loop).state) a ∙ (u.refused y at f).2 (ap (λ n. n % length body) (sym h) ∙ k.0)))
-      go (Refused x at) d Done f =
+          absurd (no-open (reg r.world.machine loop).state k.1 (ap (λ x. (reg x.machine loop).state) a ∙ (u.refused y.refusal y.place f).2 (ap (λ n. n % length body) (sym h) ∙ k.0)))
+      go (Err x) d (Ok _) f =
           let k = u.done f in
-          absurd (no-open (reg r.world.machine loop).state (ap (λ x. (reg x.machine loop).state) a ∙ k.1) ((t.refused x at d).2 (ap (λ n. n % length body) h ∙ k.0)))
-      go (Refused x at) d (Refused y to) f =
-          let k = t.refused x at d in
-          let m = u.refused y to f in
+          absurd (no-open (reg r.world.machine loop).state (ap (λ x. (reg x.machine loop).state) a ∙ k.1) ((t.refused x.refusal x.place d).2 (ap (λ n. n % length body) h ∙ k.0)))
+      go (Err x) d (Err y) f =
+          let k = t.refused x.refusal x.place d in
+          let m = u.refused y.refusal y.place f in
           let g = ap₂ (λ n z. refusal_of vl (in_turn body n).calculation z) h a in
-          let p : x ≡ y = cc in
-          let o : at ≡ to = k.1 ∙ ap (λ n. (in_turn body n).place) h ∙ sym m.1 in
-          ap₂ Refused p o
+          let p : x.refusal ≡ y.refusal = cc in
+          let o : x.place ≡ y.place = k.1 ∙ ap (λ n. (in_turn body n).place) h ∙ sym m.1 in
+          ap₂ refusal_at p o
 
 -- two runs are the same
 pub turned-one : (vl loop : ℕ) (body : List Placed) (w : World) (r q : Progress) → Turned vl loop body w r → Turned vl loop body w q → r ≡ q

@@ -9,11 +9,13 @@
 --
 -- Nothing outside the walk's own contracts is stated in these words: `standing` (WalkLaws) gives them over the elements, `stops-start` and
 -- `stops-after` (StopWalk) over the stops.
-use Rattle.std.specs.Prelude.{◌≡◌, ℕ, zero, suc, ◌+◌, ◌-◌, ◌<◌, ◌≤◌, Bool, true, false, cond, List, [], ◌∷◌, ◌++◌, length, drop, nat_lt, slice_index, slice_index_or}
+use Rattle.std.specs.Prelude.{◌≡◌, ℕ, zero, suc, ◌+◌, ◌-◌, ◌<◌, ◌≤◌, Bool, true, false, cond, Option, None, Some, List, [], ◌∷◌, ◌++◌, length, drop, nat_lt, slice_index, slice_index_or}
 use Rattle.engine.specs.Loops.{size_at, span, loops, elements}
 use Rattle.engine.specs.Chunks.{stops, nothing_at}
 use Rattle.engine.specs.Registers.{index_of}
 use Rattle.engine.specs.BoundLaws.{Under}
+use Rattle.engine.specs.declared.walk.Arrival.{Arrival}
+use Rattle.engine.specs.declared.walk.Arrival.TheVariants as arrival
 use Rattle.engine.specs.declared.stream.Shape.{Shape}
 
 module _ (size : ℕ → List ℕ → ℕ) (b : ℕ) where
@@ -77,6 +79,16 @@ pub record Stop (s : Shape) (index : List ℕ) (empty : Bool) : Type 0 where
   pub below : position < length (stops s)
   pub here : index ≡ index_of (slice_index_or (stops s) position [])
   pub told : empty ≡ nothing_at s position
+
+-- whether a stop is a coupled pass that holds no element
+abbrev pub is_empty : Arrival → Bool
+is_empty arrival.Element = false
+is_empty arrival.EmptyPass = true
+
+-- whether a walk has come to a coupled pass that holds no element
+abbrev pub comes_empty : Option Arrival → Bool
+comes_empty None = false
+comes_empty (Some at) = is_empty at
 
 -- what a search says of a position: whether there is a stop, which, and whether it is a coupled pass that holds no element
 pub record Arrives (s : Shape) (k : ℕ) (found empty : Bool) (index : List ℕ) : Type 0 where

@@ -3,47 +3,49 @@ ghost use Rattle.std.specs.Prelude.{◌≡◌, ◌<◌, ◌≤◌, true};
 ghost use Rattle.engine.specs.Good.{AllGood};
 ghost use Rattle.engine.specs.HistoryLaws.{AllNamed};
 ghost use Rattle.engine.specs.Sheets.{is_loop_register};
-ghost use Rattle.engine.specs.Bodies.{body_of, Executed};
+ghost use Rattle.engine.specs.Bodies.{Executed};
 
 use crate::calculate::{carry_out, check_calculation};
-use crate::check::Why;
 use crate::layout::{lay_out, rejoined};
-use crate::register::{Machine, is_open};
-use crate::run::{Answer, Report, Verdict};
+use crate::part::Part;
+use crate::register::{Machine, State};
+use crate::run::{Answer, Report};
 use crate::sheet::Steps;
+use codec::amounts::Bytes;
+use codec::refusal::Refused;
 
 // A run: the body, from its first calculation to its last, while the loop register's stream is open.
 pub(crate) fn execute(
     vl: u64,
     register: usize,
-    body: Steps,
+    body: &Steps,
     m: Machine,
     memory: &mut [u8],
 ) -> Answer
-    requires le_vl { ((8 ≤ vl) × (vl ≤ 64)) × ((register < 32) × (body.count ≤ 16)) }
-    requires all_named { AllNamed (body_of body) × (AllGood vl m × (is_loop_register register (body_of body) m ≡ true)) }
-    ensures { Executed vl register (body_of body) m memory.old result memory.new }
+    requires in_range { ((8 ≤ vl) × (vl ≤ 64)) × (register < 32) }
+    requires all_named { AllNamed body.now.items × (AllGood vl m × (is_loop_register register body.now.items m ≡ true)) }
+    ensures { Executed vl register body.now.items m memory.old result memory.new }
 {
-    let n = body.count;
-    let steps = body.steps;
+    let steps = body.as_slice();
     let len = memory.len();
-    let mut shapes = [[0u64; 51]; 32];
-    let mut places = [[0i64; 15]; 32];
     let mut lanes = [[0u8; 64]; 32];
     let mut indices = [[0u64; 7]; 32];
-    let mut all = lay_out(m, &mut shapes, &mut places, &mut lanes, &mut indices);
-    let mut xs = [[0i64; 3]; 64];
-    let mut ys = [[0i64; 3]; 64];
-    let mut zs = [[0i64; 3]; 64];
+    let mut all = lay_out(&m, &mut lanes, &mut indices);
+    let none = Part {
+        start: Bytes(0),
+        step: Bytes(0),
+        count: 0,
+    };
+    let mut xs = [none; 64];
+    let mut ys = [none; 64];
+    let mut zs = [none; 64];
     let mut passes = 0;
     let mut calculations = 0;
+    let registers = &m.registers;
     let looped = all[register];
-    let state = looped.state;
-    let mut open = is_open(state);
+    let mut open = looped.state == State::Open;
     while open {
-        let mut k = 0;
-        while k < n {
-            let step = steps[k];
+        for step in steps {
             let c = step.calculation;
             let task = c.task;
             let i = c.first;
@@ -55,19 +57,17 @@ pub(crate) fn execute(
             let mut va = indices[i];
             let mut vb = indices[j];
             let mut vd = indices[t];
-            let o = check_calculation(
+            let checked = check_calculation(
                 task,
                 vl,
                 i == j,
                 a,
                 b,
                 d,
-                i,
-                j,
-                t,
                 len,
-                &shapes,
-                &places,
+                &registers[i].pattern,
+                &registers[j].pattern,
+                &registers[t].pattern,
                 &mut va,
                 &mut vb,
                 &mut vd,
@@ -75,17 +75,22 @@ pub(crate) fn execute(
                 &mut ys,
                 &mut zs,
             );
-            let why = o.why;
-            if let Why::Because(x) = why {
-                return Answer {
-                    verdict: Verdict::Refused(x, step.place),
-                    report: Report {
-                        passes,
-                        calculations,
-                    },
-                    machine: rejoined(m, &shapes, &places, &lanes, &indices, all),
-                };
-            }
+            let o = match checked {
+                Ok(o) => o,
+                Err(x) => {
+                    return Answer {
+                        verdict: Err(Refused {
+                            refusal: x,
+                            place: step.place,
+                        }),
+                        report: Report {
+                            passes,
+                            calculations,
+                        },
+                        machine: rejoined(m, &lanes, &indices, all),
+                    };
+                }
+            };
             let mut la = lanes[i];
             let mut lb = lanes[j];
             let mut ld = lanes[t];
@@ -123,19 +128,17 @@ pub(crate) fn execute(
             lanes[t] = ld;
             indices[t] = vd;
             calculations += 1;
-            k += 1;
         }
         passes += 1;
         let after = all[register];
-        let state = after.state;
-        open = is_open(state);
+        open = after.state == State::Open;
     }
     Answer {
-        verdict: Verdict::Done,
+        verdict: Ok(()),
         report: Report {
             passes,
             calculations,
         },
-        machine: rejoined(m, &shapes, &places, &lanes, &indices, all),
+        machine: rejoined(m, &lanes, &indices, all),
     }
 }

@@ -13,8 +13,8 @@ pub(crate) fn outcome_count(task: Task, n: usize) -> usize
     ensures { result ≡ outcome_count task n }
 {
     match task {
-        Task::Each(action) => n,
-        Task::All(fold) => 1,
+        Task::Each(_) => n,
+        Task::All(_) => 1,
     }
 }
 
@@ -22,12 +22,7 @@ pub(crate) fn outcome_count(task: Task, n: usize) -> usize
 fn wants_lanes(fold: Fold) -> bool
     ensures { result ≡ wants_lanes (Task.All fold) }
 {
-    match fold {
-        Fold::Sum => false,
-        Fold::Smallest => true,
-        Fold::Largest => true,
-        Fold::FirstLargest => true,
-    }
+    matches!(fold, Fold::Smallest | Fold::Largest | Fold::FirstLargest)
 }
 
 // Whether a calculation on `n` lanes lacks the lane that it wants: 18.
@@ -35,13 +30,8 @@ pub(crate) fn lacks_lanes(task: Task, n: usize) -> bool
     ensures { result ≡ (wants_lanes task && n == 0) }
 {
     match task {
-        Task::Each(action) => false,
-        Task::All(fold) => {
-            if wants_lanes(fold) {
-                return n == 0;
-            }
-            false
-        }
+        Task::Each(_) => false,
+        Task::All(fold) => wants_lanes(fold) && n == 0,
     }
 }
 
@@ -59,11 +49,9 @@ fn taken_through(
     ensures { (result ≡ foldl (lane action (8 * width)) start (lanes_from lanes.now width (from * width) (n - from))) × (result < 2 ^ (8 * width)) }
 {
     let mut left = start;
-    let mut k = from;
-    while k < n {
+    for k in from..n {
         let x = load(lanes, k * (width as usize), width);
         left = lane(action, width, left, x);
-        k += 1;
     }
     left
 }
@@ -85,15 +73,13 @@ fn first_at(x: u64, width: u64, n: usize, lanes: &[u8; 64]) -> usize
     requires { ((1 ≤ width) × (width ≤ 8)) × (n * width ≤ 64) }
     ensures { (result ≡ first_at x (lanes_from lanes.now width 0 n)) × (result ≤ n) }
 {
-    let mut k = 0;
-    while k < n {
+    for k in 0..n {
         let y = load(lanes, k * (width as usize), width);
         if y == x {
             return k;
         }
-        k += 1;
     }
-    k
+    n
 }
 
 // The fold of the first `n` lanes of a register.

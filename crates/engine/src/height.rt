@@ -6,14 +6,10 @@ ghost use Rattle.engine.specs.Chunks.{differ};
 pub(crate) fn differ(u: [u64; 7], v: [u64; 7]) -> u64
     ensures { (result ≡ differ u v) × (result ≤ 7) }
 {
-    let mut d: usize = 7;
-    while 0 < d {
-        let i = u[d - 1];
-        let j = v[d - 1];
-        if i != j {
-            return d as u64;
+    for d in (0..7).rev() {
+        if u[d] != v[d] {
+            return d as u64 + 1;
         }
-        d -= 1;
     }
     0
 }

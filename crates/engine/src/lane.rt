@@ -9,7 +9,7 @@ fn mask(width: u64) -> u64
     requires { (1 ≤ width) × (width ≤ 8) }
     ensures { result ≡ 2 ^ (8 * width) - 1 }
 {
-    18446744073709551615 >> (64 - 8 * width)
+    u64::MAX >> (64 - 8 * width)
 }
 
 // Half the range of `width` bytes: the top bit alone.
@@ -25,8 +25,7 @@ fn add_lane(width: u64, a: u64, b: u64) -> u64
     requires { (1 ≤ width) × (width ≤ 8) }
     ensures { result ≡ lane Action.Add (8 * width) a b }
 {
-    let sum = std::num::wrapping_add_u64(a, b);
-    sum & mask(width)
+    a.wrapping_add(b) & mask(width)
 }
 
 // The difference, cut to the width.
@@ -34,8 +33,7 @@ fn sub_lane(width: u64, a: u64, b: u64) -> u64
     requires { ((1 ≤ width) × (width ≤ 8)) × ((a < 2 ^ (8 * width)) × (b < 2 ^ (8 * width))) }
     ensures { result ≡ lane Action.Subtract (8 * width) a b }
 {
-    let difference = std::num::wrapping_sub_u64(a, b);
-    difference & mask(width)
+    a.wrapping_sub(b) & mask(width)
 }
 
 // A lane moved up by half the range: two's complement order becomes plain order.
@@ -51,12 +49,11 @@ fn smaller(width: u64, a: u64, b: u64) -> u64
     requires { (1 ≤ width) × (width ≤ 8) }
     ensures { result ≡ lane Action.Smaller (8 * width) a b }
 {
-    let x = raise(width, a);
-    let y = raise(width, b);
-    if y < x {
-        return b;
+    if raise(width, b) < raise(width, a) {
+        b
+    } else {
+        a
     }
-    a
 }
 
 // The larger, as two's complement.
@@ -64,12 +61,11 @@ fn larger(width: u64, a: u64, b: u64) -> u64
     requires { (1 ≤ width) × (width ≤ 8) }
     ensures { result ≡ lane Action.Larger (8 * width) a b }
 {
-    let x = raise(width, a);
-    let y = raise(width, b);
-    if x < y {
-        return b;
+    if raise(width, a) < raise(width, b) {
+        b
+    } else {
+        a
     }
-    a
 }
 
 // The action on two lanes.

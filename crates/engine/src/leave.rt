@@ -3,17 +3,18 @@ ghost use Rattle.std.specs.Prelude.{◌≡◌, ℕ, suc, ◌<◌, ◌≤◌, fal
 ghost use Rattle.engine.specs.Chunks.{stops};
 ghost use Rattle.engine.specs.Registers.{index_of};
 ghost use Rattle.engine.specs.Good.{RangedPattern, Accepted};
-ghost use Rattle.engine.specs.Walk.{Stop};
+ghost use Rattle.engine.specs.Walk.{Stop, is_empty};
 ghost use Rattle.engine.specs.Places.{Onward};
-ghost use Rattle.engine.specs.Rows.{shape_in, pattern_in};
 ghost use Rattle.engine.specs.Runnings.{spotted};
 
 use crate::height::differ;
 use crate::place::{Spot, spot_at};
-use crate::walk::next_stop;
+use crate::stream::Pattern;
+use crate::walk::{Arrival, next_stop};
 use codec::amounts::Bytes;
 
-// Whether there is a further stop, where it lies, and the height of the flags there.
+// Whether there is a further stop, where it lies, and the height of the flags there. `found` stands beside them and is no Option around
+// them: where there is no stop, the height is that of all flags and the spot is what a finished register keeps.
 #[derive(Clone, Copy)]
 pub(crate) struct Leaving {
     pub found: bool,
@@ -21,39 +22,35 @@ pub(crate) struct Leaving {
     pub spot: Spot,
 }
 
-// From a stop, of which `empty` tells whether it is a coupled pass that holds no element, to the next, wherever the search finds it: its
-// indices take the place of the other's, zeros if there is none.
+// From a stop, an element or a coupled pass that holds none, to the next, wherever the search finds it: its indices take the place of the
+// other's, zeros if there is none.
 pub(crate) fn leave_row(
-    shape: &[u64; 51],
-    places: &[i64; 15],
+    pattern: &Pattern,
     width: u64,
     index: &mut [u64; 7],
-    empty: bool,
+    from: Arrival,
 ) -> Leaving
-    requires ranged_pattern { RangedPattern (pattern_in shape.now places.now) × ((width ≤ 8) × Accepted (shape_in shape.now)) }
-    requires stop { Stop (shape_in shape.now) index.old empty }
-    ensures by_index { (k : ℕ) → k < length (stops (shape_in shape.now)) → index.old ≡ index_of (slice_index_or (stops (shape_in shape.now)) k []) → Onward (pattern_in shape.now places.now) width (suc k) result.found (spotted index.new result.spot) result.height }
+    requires ranged_pattern { RangedPattern pattern.now × ((width ≤ 8) × Accepted pattern.now.shape) }
+    requires stop { Stop pattern.now.shape index.old (is_empty from) }
+    ensures by_index { (k : ℕ) → k < length (stops pattern.now.shape) → index.old ≡ index_of (slice_index_or (stops pattern.now.shape) k []) → Onward pattern.now width (suc k) result.found (spotted index.new result.spot) result.height }
     ensures index_after { result.found ≡ false → index.new ≡ replicate 7 0 }
 {
-    let from = *index;
-    let next = next_stop(shape, index, empty);
-    if !next.found {
+    let before = *index;
+    let Some(to) = next_stop(&pattern.shape, index, from) else {
         *index = [0; 7];
         return Leaving {
             found: false,
-            height: shape[7] + 1,
+            height: pattern.shape.dims as u64 + 1,
             spot: Spot {
                 address: Bytes(0),
                 size: 0,
                 step: Bytes(0),
             },
         };
-    }
-    let to = *index;
-    let spot = spot_at(shape, places, width, index, next.empty);
+    };
     Leaving {
         found: true,
-        height: differ(from, to),
-        spot,
+        height: differ(before, *index),
+        spot: spot_at(pattern, width, index, to),
     }
 }

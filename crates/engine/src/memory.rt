@@ -1,5 +1,5 @@
 // Numbers in bytes, lowest byte first: elements of memory and lanes of a register.
-ghost use Rattle.std.specs.Prelude.{◌≡◌, ◌+◌, ◌*◌, ◌^◌, ◌<◌, ◌≤◌, true, length};
+ghost use Rattle.std.specs.Prelude.{◌≡◌, ◌+◌, ◌*◌, ◌^◌, ◌<◌, ◌≤◌, true, length, take, drop};
 ghost use Rattle.std.proofs.lemmas.List.Edits.{sets};
 ghost use Rattle.std.specs.Int.Signed.{non_neg};
 ghost use Rattle.engine.specs.Loops.{natural};
@@ -8,32 +8,14 @@ ghost use Rattle.engine.specs.Memory.{value_at, little_endian};
 
 use codec::amounts::Bytes;
 
-fn wide(x: u8) -> u64
-    ensures { (result ≡ x) × (result < 256) }
+// The N bytes from `at` on.
+fn bytes_at<const N: usize>(bytes: &[u8], at: usize) -> [u8; N]
+    requires { at + N ≤ length bytes.now }
+    ensures { result ≡ take N (drop at bytes.now) }
 {
-    x as u64
-}
-
-// The number of two bytes, of four and of eight: each of two halves, with no loop, so that it is one access of the machine.
-fn load2(bytes: &[u8], at: usize) -> u64
-    requires { at + 2 ≤ length bytes.now }
-    ensures { (result ≡ value_at bytes.now at 2) × (result < 2 ^ 16) }
-{
-    wide(bytes[at]) + 256 * wide(bytes[at + 1])
-}
-
-fn load4(bytes: &[u8], at: usize) -> u64
-    requires { at + 4 ≤ length bytes.now }
-    ensures { (result ≡ value_at bytes.now at 4) × (result < 2 ^ 32) }
-{
-    load2(bytes, at) + 65536 * load2(bytes, at + 2)
-}
-
-fn load8(bytes: &[u8], at: usize) -> u64
-    requires { at + 8 ≤ length bytes.now }
-    ensures { (result ≡ value_at bytes.now at 8) × (result < 2 ^ 64) }
-{
-    load4(bytes, at) + 4294967296 * load4(bytes, at + 4)
+    let mut out = [0; N];
+    out.copy_from_slice(&bytes[at..at + N]);
+    out
 }
 
 // The number of any count of bytes: from the top byte down, so that every product is by 256.
@@ -41,11 +23,9 @@ fn load_bytes(bytes: &[u8], at: usize, width: u64) -> u64
     requires { (at + width ≤ length bytes.now) × (width ≤ 8) }
     ensures { (result ≡ value_at bytes.now at width) × (result < 2 ^ (8 * width)) }
 {
-    let mut x: u64 = 0;
-    let mut k = width as usize;
-    while 0 < k {
-        k -= 1;
-        x = wide(bytes[at + k]) + 256 * x;
+    let mut x = 0;
+    for k in (0..width as usize).rev() {
+        x = u64::from(bytes[at + k]) + 256 * x;
     }
     x
 }
@@ -55,51 +35,21 @@ pub(crate) fn load(bytes: &[u8], at: usize, width: u64) -> u64
     requires { (at + width ≤ length bytes.now) × (width ≤ 8) }
     ensures { (result ≡ value_at bytes.now at width) × (result < 2 ^ (8 * width)) }
 {
-    if width == 1 {
-        return wide(bytes[at]);
+    match width {
+        1 => u64::from(bytes[at]),
+        2 => u64::from(u16::from_le_bytes(bytes_at(bytes, at))),
+        4 => u64::from(u32::from_le_bytes(bytes_at(bytes, at))),
+        8 => u64::from_le_bytes(bytes_at(bytes, at)),
+        _ => load_bytes(bytes, at, width),
     }
-    if width == 2 {
-        return load2(bytes, at);
-    }
-    if width == 4 {
-        return load4(bytes, at);
-    }
-    if width == 8 {
-        return load8(bytes, at);
-    }
-    load_bytes(bytes, at, width)
 }
 
-// Writes the lowest byte of `x` to `at`; the two, four and eight lowest, each as two halves.
-fn store1(bytes: &mut [u8], at: usize, x: u64)
-    requires { at < length bytes.old }
-    ensures { bytes.new ≡ sets bytes.old at (little_endian 1 x) }
+// Writes N bytes from `at` on.
+fn put<const N: usize>(bytes: &mut [u8], at: usize, part: [u8; N])
+    requires { at + N ≤ length bytes.old }
+    ensures { bytes.new ≡ sets bytes.old at part.entry }
 {
-    bytes[at] = (x % 256) as u8;
-}
-
-fn store2(bytes: &mut [u8], at: usize, x: u64)
-    requires { at + 2 ≤ length bytes.old }
-    ensures { bytes.new ≡ sets bytes.old at (little_endian 2 x) }
-{
-    store1(bytes, at, x);
-    store1(bytes, at + 1, x / 256);
-}
-
-fn store4(bytes: &mut [u8], at: usize, x: u64)
-    requires { at + 4 ≤ length bytes.old }
-    ensures { bytes.new ≡ sets bytes.old at (little_endian 4 x) }
-{
-    store2(bytes, at, x);
-    store2(bytes, at + 2, x / 65536);
-}
-
-fn store8(bytes: &mut [u8], at: usize, x: u64)
-    requires { at + 8 ≤ length bytes.old }
-    ensures { bytes.new ≡ sets bytes.old at (little_endian 8 x) }
-{
-    store4(bytes, at, x);
-    store4(bytes, at + 4, x / 4294967296);
+    bytes[at..at + N].copy_from_slice(&part);
 }
 
 // Writes any count of bytes of `x`, byte by byte.
@@ -107,13 +57,10 @@ fn store_bytes(bytes: &mut [u8], at: usize, width: u64, x: u64)
     requires { at + width ≤ length bytes.old }
     ensures { bytes.new ≡ sets bytes.old at (little_endian width x) }
 {
-    let n = width as usize;
     let mut rest = x;
-    let mut k = 0;
-    while k < n {
+    for k in 0..width as usize {
         bytes[at + k] = (rest % 256) as u8;
-        rest = rest / 256;
-        k += 1;
+        rest /= 256;
     }
 }
 
@@ -122,23 +69,13 @@ pub(crate) fn store(bytes: &mut [u8], at: usize, width: u64, x: u64)
     requires { at + width ≤ length bytes.old }
     ensures { bytes.new ≡ sets bytes.old at (little_endian width x) }
 {
-    if width == 1 {
-        store1(bytes, at, x);
-        return;
+    match width {
+        1 => put(bytes, at, [(x % 0x100) as u8]),
+        2 => put(bytes, at, ((x % 0x1_0000) as u16).to_le_bytes()),
+        4 => put(bytes, at, ((x % 0x1_0000_0000) as u32).to_le_bytes()),
+        8 => put(bytes, at, x.to_le_bytes()),
+        _ => store_bytes(bytes, at, width, x),
     }
-    if width == 2 {
-        store2(bytes, at, x);
-        return;
-    }
-    if width == 4 {
-        store4(bytes, at, x);
-        return;
-    }
-    if width == 8 {
-        store8(bytes, at, x);
-        return;
-    }
-    store_bytes(bytes, at, width, x);
 }
 
 // An address that is not below 0, as a place in memory.
@@ -146,8 +83,7 @@ pub(crate) fn place(a: Bytes) -> usize
     requires { non_neg a.0 ≡ true }
     ensures { (result ≡ natural a.0) × (result ≤ 9223372036854775807) }
 {
-    let x = a.0;
-    x as usize
+    a.0 as usize
 }
 
 // Whether an element of `width` bytes at address `a` lies inside a memory of `len` bytes.
@@ -155,9 +91,5 @@ pub(crate) fn inside(a: Bytes, width: u64, len: usize) -> bool
     requires { width ≤ 8 }
     ensures { result ≡ inside len width a.0 }
 {
-    let x = a.0;
-    if x < 0 {
-        return false;
-    }
-    place(a) + (width as usize) <= len
+    0 <= a.0 && place(a) + (width as usize) <= len
 }

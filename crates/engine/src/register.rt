@@ -1,13 +1,13 @@
 // The 32 vector registers and their streams.
 ghost use Rattle.std.specs.Prelude.{◌≡◌};
-ghost use Rattle.engine.specs.Registers.{is_configuring, is_open, is_finished, is_load, no_shape, no_pattern, fresh, fresh_machine};
+ghost use Rattle.engine.specs.Registers.{no_shape, no_pattern, fresh, fresh_machine};
 
 use crate::stream::{Modifier, Pattern, Shape};
 use codec::amounts::{Bytes, Elements};
-use codec::header::{Coupling, Kind};
+use codec::header::Kind;
 use codec::operation::{Behaviour, Parameter};
 
-#[derive(Clone, Copy)]
+#[derive(Clone, Copy, PartialEq, Eq)]
 pub enum State {
     Plain,
     Configuring,
@@ -36,48 +36,6 @@ pub struct Machine {
     pub registers: [Register; 32],
 }
 
-pub(crate) fn is_configuring(k: State) -> bool
-    ensures { result ≡ is_configuring k }
-{
-    match k {
-        State::Plain => false,
-        State::Configuring => true,
-        State::Open => false,
-        State::Finished => false,
-    }
-}
-
-pub(crate) fn is_open(k: State) -> bool
-    ensures { result ≡ is_open k }
-{
-    match k {
-        State::Plain => false,
-        State::Configuring => false,
-        State::Open => true,
-        State::Finished => false,
-    }
-}
-
-pub(crate) fn is_finished(k: State) -> bool
-    ensures { result ≡ is_finished k }
-{
-    match k {
-        State::Plain => false,
-        State::Configuring => false,
-        State::Open => false,
-        State::Finished => true,
-    }
-}
-
-pub(crate) fn is_load(k: Kind) -> bool
-    ensures { result ≡ is_load k }
-{
-    match k {
-        Kind::Load => true,
-        Kind::Store => false,
-    }
-}
-
 // No descriptors yet.
 pub(crate) fn no_shape() -> Shape
     ensures { result ≡ no_shape }
@@ -94,7 +52,7 @@ pub(crate) fn no_shape() -> Shape
         sizes: [0; 7],
         mods: 0,
         modifiers: [none; 8],
-        coupling: Coupling::Uncoupled,
+        coupling: None,
     }
 }
 

@@ -7,16 +7,9 @@ ghost use Rattle.engine.specs.Bodies.{progress_of, settled_of};
 
 use crate::execute::execute;
 use crate::register::{Machine, fresh_machine};
-use crate::sheet::{Ending, operations};
-use codec::operation::Calculation;
-use codec::refusal::Refusal;
-
-// Done, or refused: the refusal and its place.
-#[derive(Clone, Copy)]
-pub enum Verdict {
-    Done,
-    Refused(Refusal, usize),
-}
+use crate::sheet::operations;
+use codec::operation::{Action, Calculation, Task};
+use codec::refusal::{Refusal, Refused};
 
 // What a run reports: passes and calculations completed.
 #[derive(Clone, Copy)]
@@ -25,10 +18,10 @@ pub struct Report {
     pub calculations: u64,
 }
 
-// The answer of a sheet. The memory is the caller's.
+// The answer of a sheet: done, or refused. The memory is the caller's.
 #[derive(Clone, Copy)]
 pub struct Answer {
-    pub verdict: Verdict,
+    pub verdict: Result<(), Refused>,
     pub report: Report,
     pub machine: Machine,
 }
@@ -40,10 +33,30 @@ pub struct Placed {
     pub calculation: Calculation,
 }
 
-// What some operations of a sheet leave: the verdict so far, and the registers.
+// Register 0 copied to itself, at place 0: what fills the places that a body leaves unused.
+impl Default for Placed {
+    ghost use Rattle.std.specs.Prelude.{◌≡◌};
+    ghost use Rattle.engine.specs.Histories.{no_placed};
+
+    ghost is_default = { λ p. p ≡ no_placed };
+
+    fn default() -> Placed {
+        Placed {
+            place: 0,
+            calculation: Calculation {
+                task: Task::Each(Action::Copy),
+                destination: 0,
+                first: 0,
+                second: 0,
+            },
+        }
+    }
+}
+
+// What some operations of a sheet leave: whether one was refused so far, and the registers.
 #[derive(Clone, Copy)]
 pub struct Settled {
-    pub verdict: Verdict,
+    pub verdict: Result<(), Refused>,
     pub machine: Machine,
 }
 
@@ -51,48 +64,38 @@ pub struct Settled {
 pub fn is_allowed(vl: u64, size: usize) -> bool
     ensures { result ≡ allowed vl size }
 {
-    if vl < 8 {
-        return false;
-    }
-    if 64 < vl {
-        return false;
-    }
-    if vl % 8 != 0 {
-        return false;
-    }
-    size <= 65536
+    8 <= vl && vl <= 64 && vl % 8 == 0 && size <= 65536
 }
 
 // The answer of a sheet at a vector length, on a lent memory: 15 first, then its operations, then its run.
 pub fn run(sheet: &[u8], vl: u64, memory: &mut [u8]) -> Answer
     ensures { progress_of result memory.new ≡ Sheets.run vl sheet.now memory.old }
 {
-    let none = Report {
+    let report = Report {
         passes: 0,
         calculations: 0,
     };
-    let fresh = fresh_machine();
+    let mut machine = fresh_machine();
     if !is_allowed(vl, memory.len()) {
         return Answer {
-            verdict: Verdict::Refused(Refusal::Lengths, 0),
-            report: none,
-            machine: fresh,
+            verdict: Err(Refused {
+                refusal: Refusal::Lengths,
+                place: 0,
+            }),
+            report,
+            machine,
         };
     }
-    let p = operations(sheet, sheet.len(), fresh);
-    let ending = p.ending;
-    let machine = p.machine;
-    let body = p.body;
-    match ending {
-        Ending::Over => Answer {
-            verdict: Verdict::Done,
-            report: none,
+    match operations(sheet, sheet.len(), &mut machine) {
+        Ok(Some(run)) => execute(vl, run.register, &run.body, machine, memory),
+        Ok(None) => Answer {
+            verdict: Ok(()),
+            report,
             machine,
         },
-        Ending::Runs(register) => execute(vl, register, body, machine, memory),
-        Ending::Refused(refusal, place) => Answer {
-            verdict: Verdict::Refused(refusal, place),
-            report: none,
+        Err(refused) => Answer {
+            verdict: Err(refused),
+            report,
             machine,
         },
     }
@@ -102,22 +105,10 @@ pub fn run(sheet: &[u8], vl: u64, memory: &mut [u8]) -> Answer
 pub fn set_up(sheet: &[u8], most: usize) -> Settled
     ensures { result ≡ settled_of (operations_from most sheet.now 0 fresh_machine) }
 {
-    let fresh = fresh_machine();
-    let p = operations(sheet, most, fresh);
-    let ending = p.ending;
-    let machine = p.machine;
-    match ending {
-        Ending::Over => Settled {
-            verdict: Verdict::Done,
-            machine,
-        },
-        Ending::Runs(register) => Settled {
-            verdict: Verdict::Done,
-            machine,
-        },
-        Ending::Refused(refusal, place) => Settled {
-            verdict: Verdict::Refused(refusal, place),
-            machine,
-        },
+    let mut machine = fresh_machine();
+    let ending = operations(sheet, most, &mut machine);
+    Settled {
+        verdict: ending.map(|_| ()),
+        machine,
     }
 }

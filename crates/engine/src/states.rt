@@ -5,91 +5,70 @@ ghost use Rattle.engine.specs.Checks.{first_of};
 ghost use Rattle.engine.specs.Calculate.{source_checks, destination_checks};
 ghost use Rattle.engine.specs.Runnings.{bare};
 
-use crate::check::Why;
-use crate::register::{is_configuring, is_finished, is_load, is_open};
+use crate::register::State;
 use crate::running::Running;
+use codec::header::Kind;
 use codec::refusal::Refusal;
 
-// Why a register cannot be a source: 5, 11, 10.
-fn why_source(r: Running) -> Why
+// The checks of a source: 5, 11, 10.
+#[tactic(auto, unfolding(crate::specs::Checks::first_of))]
+fn check_source(r: Running) -> Result<(), Refusal>
     ensures { result ≡ first_of (source_checks (bare r)) }
 {
-    let k = r.state;
-    if is_configuring(k) {
-        return Why::Because(Refusal::WrongState);
+    if r.state == State::Configuring {
+        return Err(Refusal::WrongState);
     }
-    if is_finished(k) {
-        return Why::Because(Refusal::StreamEnded);
+    if r.state == State::Finished {
+        return Err(Refusal::StreamEnded);
     }
     if open_store(r) {
-        return Why::Because(Refusal::WrongKind);
+        return Err(Refusal::WrongKind);
     }
-    Why::Nothing
+    Ok(())
 }
 
-// Why a register cannot be a destination: 5, 11, 10.
-fn why_destination(r: Running) -> Why
-    ensures { result ≡ first_of (destination_checks (bare r)) }
+// The checks of a destination: 5, 11, 10.
+#[tactic(auto, unfolding(crate::specs::Checks::first_of))]
+fn check_destination(d: Running) -> Result<(), Refusal>
+    ensures { result ≡ first_of (destination_checks (bare d)) }
 {
-    let state = r.state;
-    if is_configuring(state) {
-        return Why::Because(Refusal::WrongState);
+    if d.state == State::Configuring {
+        return Err(Refusal::WrongState);
     }
-    if is_finished(state) {
-        return Why::Because(Refusal::StreamEnded);
+    if d.state == State::Finished {
+        return Err(Refusal::StreamEnded);
     }
-    if open_load(r) {
-        return Why::Because(Refusal::WrongKind);
+    if open_load(d) {
+        return Err(Refusal::WrongKind);
     }
-    Why::Nothing
+    Ok(())
 }
 
 fn open_load(r: Running) -> bool
     ensures { result ≡ open_load (bare r) }
 {
-    let s = r.state;
-    let k = r.kind;
-    if is_open(s) {
-        return is_load(k);
-    }
-    false
+    r.state == State::Open && r.kind == Kind::Load
 }
 
 pub(crate) fn open_store(r: Running) -> bool
     ensures { result ≡ open_store (bare r) }
 {
-    let s = r.state;
-    let k = r.kind;
-    if is_open(s) {
-        return !is_load(k);
-    }
-    false
+    r.state == State::Open && r.kind == Kind::Store
 }
 
-// Why the states of the three registers do not fit: first source, second source, destination in turn.
-pub(crate) fn why_states(a: Running, b: Running, d: Running) -> Why
+// The checks of the three registers' states: first source, second source, destination in turn.
+#[tactic(auto, unfolding(crate::specs::Checks::first_of))]
+pub(crate) fn check_states(a: Running, b: Running, d: Running) -> Result<(), Refusal>
     ensures { result ≡ first_of (source_checks (bare a) ++ source_checks (bare b) ++ destination_checks (bare d)) }
 {
-    let x = why_source(a);
-    let Why::Nothing = x else {
-        return x;
-    };
-    let y = why_source(b);
-    let Why::Nothing = y else {
-        return y;
-    };
-    why_destination(d)
+    check_source(a)?;
+    check_source(b)?;
+    check_destination(d)
 }
 
 // Whether widths differ: 12.
 pub(crate) fn widths_differ(a: Running, b: Running, d: Running) -> bool
     ensures { result ≡ (not (a.width == b.width) || open_store (bare d) && not (a.width == d.width)) }
 {
-    if a.width != b.width {
-        return true;
-    }
-    if open_store(d) {
-        return a.width != d.width;
-    }
-    false
+    a.width != b.width || open_store(d) && a.width != d.width
 }

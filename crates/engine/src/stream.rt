@@ -1,6 +1,5 @@
 // A stream's descriptors.
 use codec::amounts::{Bytes, Elements};
-use codec::header::Coupling;
 use codec::operation::{Behaviour, Parameter};
 
 // A modifier. Dimensions are counted from 0 here: the target is the sheet's field, the owner the place of its dimension.
@@ -20,7 +19,7 @@ pub struct Shape {
     pub sizes: [u64; 7],
     pub mods: usize,
     pub modifiers: [Modifier; 8],
-    pub coupling: Coupling,
+    pub coupling: Option<u64>,
 }
 
 // A stream's descriptors: its shape, and where its elements lie. Offsets count bytes and strides count elements.

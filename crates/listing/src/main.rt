@@ -3,32 +3,27 @@
 
 ghost use Rattle.words.specs.Files.{IsPrefixLen};
 
-use codec::refusal::Refusal;
-use engine::run::{Verdict, set_up};
+use codec::refusal::{Refusal, Refused};
+use engine::run::set_up;
 use std::env::Env;
 use std::fs::Files;
 use words::argument::{arg_count, asks_for_help, complain};
 use words::file::{Taken, is_whole, read_argument, read_input, write_output};
 use words::refusal::{explained, refused};
 use words::sheet::lines;
-use words::text::{counted, say};
+use words::text::Counted;
 
-fn help(out: &impl Print) {
-    say(
-        out,
-        b"usage: listing [SHEET]
+const HELP: &str = "usage: listing [SHEET]
 
 Lists the sheet file SHEET, or standard input, as text: a line for each operation and calculation, with its
 place, its bytes and its meaning; at the end of a stream also its dimensions, modifiers and elements, and
 the addresses of the first and the last of these. The last line is `accepted`, or the last two say `refused
 N at P`, with the refusal's number and place, and why: a refused sheet is listed up to there. What only a run
 can refuse, for its memory or its vector length, the program `run` tells.
-",
-    );
-}
+";
 
 // How the program is used.
-const USAGE: [u8; 23] = *b"usage: listing [SHEET]\n";
+const USAGE: &[u8] = b"usage: listing [SHEET]\n";
 
 // The last place to be listed of a refused sheet: the refusal's; for 16, which is looked at when the body is read, the sheet's end.
 fn last_place(why: Refusal, place: usize, len: usize) -> usize {
@@ -37,19 +32,17 @@ fn last_place(why: Refusal, place: usize, len: usize) -> usize {
 
 // Lists a sheet, and says whether it is accepted.
 fn list(out: &impl Print, err: &impl Print, sheet: &[u8]) {
-    let settled = set_up(sheet, sheet.len());
-    let verdict = settled.verdict;
-    match verdict {
-        Verdict::Done => {
+    match set_up(sheet, sheet.len()).verdict {
+        Ok(()) => {
             lines(out, sheet, 0, sheet.len());
-            say(out, b"accepted: ");
-            counted(out, sheet.len() as u64, b"byte", b"bytes");
+            let bytes = Counted(sheet.len() as u64, "byte", "bytes");
+            let _ = print!(out; "accepted: {bytes}");
         }
-        Verdict::Refused(why, place) => {
-            lines(out, sheet, 0, last_place(why, place, sheet.len()));
-            refused(out, why, place);
-            say(out, b": ");
-            explained(out, why);
+        Err(Refused { refusal, place }) => {
+            lines(out, sheet, 0, last_place(refusal, place, sheet.len()));
+            refused(out, refusal, place);
+            let _ = out.print(": ");
+            explained(out, refusal);
         }
     }
     write_output(out, err, b"\n");
@@ -73,20 +66,18 @@ fn read_sheet<R: Env + Files + Input>(
 fn main(rt: HostRuntime) {
     let err = rt.stderr();
     if asks_for_help(&rt) {
-        help(&rt);
+        let _ = rt.print(HELP);
         return;
     }
     let count = arg_count(&rt);
     if 2 < count {
         complain(&err, b"listing takes one sheet\n");
-        complain(&err, &USAGE);
+        complain(&err, USAGE);
         return;
     }
-    let mut sheet = [0u8; 65537];
-    let taken = read_sheet(&rt, &err, count, &mut sheet);
-    let n = taken.count;
-    let stop = taken.stop;
-    if is_whole(&err, stop, &USAGE) {
+    let mut sheet = [0; 65537];
+    let Taken { count: n, stop } = read_sheet(&rt, &err, count, &mut sheet);
+    if is_whole(&err, stop, USAGE) {
         list(&rt, &err, &sheet[..n]);
     }
 }

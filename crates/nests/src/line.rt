@@ -1,108 +1,98 @@
-// A line of the table: its fields, read byte by byte.
+// A line of the table: its fields.
+ghost use Rattle.std.specs.Prelude.{◌<◌, ◌≤◌, IfSome};
 
-// What has been read of a line: how many semicolons, its first byte, its name, the hexadecimal digits of its nest, the numbers behind that,
-// and whether a byte stood where it cannot stand.
+// The line of a row: the letter of its kind, its name, its nest as hexadecimal digits, and two numbers.
 #[derive(Clone, Copy)]
-pub struct Line {
-    pub marks: u64,
-    pub kind: u8,
-    pub name: [u8; 64],
-    pub named: usize,
-    pub nest: [u8; 128],
-    pub digits: usize,
-    pub numbers: [u64; 2],
-    pub bad: bool,
+pub(crate) struct Line<'a> {
+    pub(crate) kind: u8,
+    name: &'a [u8],
+    nest: &'a [u8],
+    first: &'a [u8],
+    second: &'a [u8],
 }
 
-pub(crate) fn empty_line() -> Line {
-    Line {
-        marks: 0,
-        kind: 0,
-        name: [0u8; 64],
-        named: 0,
-        nest: [0u8; 128],
-        digits: 0,
-        numbers: [0u64; 2],
-        bad: false,
-    }
-}
-
-// The value of a hexadecimal digit, in upper case; 16 for any other byte.
-fn digit(b: u8) -> u8 {
+// The value of a hexadecimal digit, in upper case.
+fn digit(b: u8) -> Option<u8>
+    ensures { IfSome result (λ d. d < 16) }
+{
     match b {
-        b'0'..=b'9' => b - b'0',
-        b'A'..=b'F' => b - b'A' + 10,
-        _ => 16,
+        b'0'..=b'9' => Some(b - b'0'),
+        b'A'..=b'F' => Some(b - b'A' + 10),
+        _ => None,
     }
 }
 
-// The name begins behind the first space.
-fn with_name(mut line: Line, b: u8) -> Line {
-    let n = line.named;
-    if n == 0 && b == b' ' {
-        return line;
-    }
-    if 63 < n {
-        line.bad = true;
-        return line;
-    }
-    line.name[n] = b;
-    line.named = n + 1;
-    line
+// A decimal number, of which the last seven digits count. Spaces and semicolons may stand between them.
+fn number(text: &[u8]) -> Option<u64> {
+    text.iter()
+        .filter(|b| !matches!(**b, b' ' | b';'))
+        .try_fold(0u64, |value, b| {
+            if !b.is_ascii_digit() {
+                return None;
+            }
+            Some(value % 1_000_000 * 10 + u64::from(*b - b'0'))
+        })
 }
 
-// A byte of the nest is two digits; spaces and bars may stand between them.
-fn with_digit(mut line: Line, b: u8) -> Line {
-    let n = line.digits / 2;
-    if b == b' ' || b == b'|' {
-        return line;
+// The field of a line that stands behind so many semicolons, the fourth with all behind it; empty if the line has fewer. The rest of the
+// line, behind its kind's letter, is given, and how many semicolons stand before that.
+fn field(rest: &[u8], passed: usize, marks: usize) -> &[u8]
+    requires { passed ≤ 4 }
+{
+    match marks.checked_sub(passed) {
+        Some(left) => rest
+            .splitn(5 - passed, |b| *b == b';')
+            .nth(left)
+            .unwrap_or(&[]),
+        None => &[],
     }
-    if 127 < n {
-        line.bad = true;
-        return line;
-    }
-    let d = digit(b);
-    if 15 < d {
-        line.bad = true;
-        return line;
-    }
-    let high = line.nest[n];
-    line.nest[n] = high % 16 * 16 + d;
-    line.digits = line.digits + 1;
-    line
 }
 
-// A decimal number, in a field of its own.
-fn with_number(mut line: Line, b: u8, k: usize) -> Line {
-    if b == b' ' {
-        return line;
+impl<'a> Line<'a> {
+    // What a line says; none if it is empty or a comment. The fields are counted by semicolons, and the letter of the kind, the first byte
+    // that is neither a semicolon nor 0, belongs to none of them.
+    pub(crate) fn read(line: &'a [u8]) -> Option<Self> {
+        let at = line.iter().position(|b| !matches!(*b, b';' | 0))?;
+        let kind = line[at];
+        if kind == b'#' {
+            return None;
+        }
+        let marks = line[..at].iter().filter(|b| **b == b';').count().min(4);
+        let rest = &line[at + 1..];
+        Some(Line {
+            kind,
+            name: field(rest, marks, 1),
+            nest: field(rest, marks, 2),
+            first: field(rest, marks, 3),
+            second: field(rest, marks, 4),
+        })
     }
-    let d = digit(b);
-    if 9 < d || 1 < k {
-        line.bad = true;
-        return line;
-    }
-    let tens = line.numbers[k];
-    line.numbers[k] = tens % 1000000 * 10 + d as u64;
-    line
-}
 
-// What has been read with one byte more, other than the one that ends the line.
-pub(crate) fn with_byte(mut line: Line, b: u8) -> Line {
-    if b == b';' {
-        line.marks = std::num::wrapping_add_u64(line.marks, 1);
-        return line;
+    // The name, at most 64 bytes, which begins behind the first spaces.
+    pub(crate) fn name(&self) -> Option<&'a [u8]> {
+        let mut name = self.name;
+        while let [b' ', rest @ ..] = name {
+            name = rest;
+        }
+        if name.len() <= 64 { Some(name) } else { None }
     }
-    let marks = line.marks;
-    if line.kind == 0 {
-        line.kind = b;
-        return line;
+
+    // The bytes of the nest, put into a room: each is two digits, and spaces and bars may stand between them.
+    pub(crate) fn nest<'b>(&self, room: &'b mut [u8; 128]) -> Option<&'b [u8]> {
+        let mut digits = 0;
+        for b in self.nest.iter().filter(|b| !matches!(**b, b' ' | b'|')) {
+            let byte = room.get_mut(digits / 2)?;
+            *byte = *byte % 16 * 16 + digit(*b)?;
+            digits += 1;
+        }
+        if digits % 2 == 0 {
+            Some(&room[..digits / 2])
+        } else {
+            None
+        }
     }
-    match marks {
-        0 => line,
-        1 => with_name(line, b),
-        2 => with_digit(line, b),
-        3 => with_number(line, b, 0),
-        _ => with_number(line, b, 1),
+
+    pub(crate) fn numbers(&self) -> Option<[u64; 2]> {
+        Some([number(self.first)?, number(self.second)?])
     }
 }

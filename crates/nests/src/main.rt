@@ -7,51 +7,46 @@ mod line;
 mod plain;
 mod rows;
 
-use crate::line::{Line, empty_line, with_byte};
-use crate::rows::{Tally, row_of};
+use crate::line::Line;
+use crate::rows::Row;
 use words::file::take_all;
-use words::text::{decimal, say};
 
-// Writes and counts the row of a line, unless the line is empty or a comment.
-fn counted(out: &impl Print, t: Tally, line: Line) -> Tally {
-    let kind = line.kind;
-    if kind == 0 || kind == b'#' {
-        return t;
-    }
-    if line.bad || line.digits % 2 == 1 {
-        say(out, b"a row that cannot be read\n");
-        return Tally {
-            rows: std::num::wrapping_add_u64(t.rows, 1),
-            wrong: std::num::wrapping_add_u64(t.wrong, 1),
-        };
-    }
-    row_of(out, t, line)
+// How many rows there were, and how many were not as they must be.
+#[derive(Clone, Copy)]
+struct Tally {
+    rows: u64,
+    wrong: u64,
 }
 
-// Every line of a table in turn.
-fn table(out: &impl Print, text: &[u8]) -> Tally {
-    let mut t = Tally { rows: 0, wrong: 0 };
-    let mut line = empty_line();
-    let mut at = 0;
-    while at < text.len() {
-        let b = text[at];
-        if b == b'\n' {
-            t = counted(out, t, line);
-            line = empty_line();
-        } else {
-            line = with_byte(line, b);
+// Writes the row of a line, and answers whether it is as it must be.
+fn is_right(out: &impl Print, line: &Line) -> bool {
+    match Row::read(line, &mut [0; 128]) {
+        Some(row) => row.write(out),
+        None => {
+            let _ = println!(out; "a row that cannot be read");
+            false
         }
-        at += 1;
     }
-    t
+}
+
+// Every line of a table in turn that is neither empty nor a comment. Bytes that no newline ends are no line.
+fn table(out: &impl Print, text: &[u8]) -> Tally {
+    let mut tally = Tally { rows: 0, wrong: 0 };
+    for line in text.split_inclusive(|b| *b == b'\n') {
+        let Some(line) = line.strip_suffix(b"\n").and_then(Line::read) else {
+            continue;
+        };
+        tally.rows = tally.rows.wrapping_add(1);
+        if !is_right(out, &line) {
+            tally.wrong = tally.wrong.wrapping_add(1);
+        }
+    }
+    tally
 }
 
 fn main(rt: HostRuntime) {
     let mut text = [0u8; 32768];
     let taken = take_all(&mut rt.reader(), &mut text);
-    let t = table(&rt, &text[..taken.count]);
-    decimal(&rt, t.rows);
-    say(&rt, b" rows, ");
-    decimal(&rt, t.wrong);
-    say(&rt, b" not as they must be\n");
+    let Tally { rows, wrong } = table(&rt, &text[..taken.count]);
+    let _ = println!(rt; "{rows} rows, {wrong} not as they must be");
 }

@@ -1,23 +1,20 @@
 // Runs a sheet file on a copy of a memory file, and says in words what came of it.
 #![tactic(auto)]
 
+use codec::refusal::Refused;
 use engine::register::Machine;
-use engine::run::{Answer, Verdict};
+use engine::run::{Answer, Report};
 use std::env::Env;
 use std::fs::Files;
 use words::argument::{arg_count, asks_for_help, complain, number_argument};
-use words::file::{Stop, is_whole, read_argument, write_argument, write_output};
+use words::file::{Stop, Taken, is_whole, read_argument, write_argument, write_output};
 use words::memory::changed;
-use words::number::Decimal;
 use words::refusal::{explained_run, refused};
 use words::register::registers;
 use words::sheet::lines;
-use words::text::{counted, decimal, say};
+use words::text::Counted;
 
-fn help(out: &impl Print) {
-    say(
-        out,
-        b"usage: run VECTOR-LENGTH SHEET MEMORY [OUT]
+const HELP: &str = "usage: run VECTOR-LENGTH SHEET MEMORY [OUT]
 
 Runs the sheet file SHEET on a copy of the memory file MEMORY, with vectors of VECTOR-LENGTH bytes (8 to 64,
 a multiple of 8), and writes the memory after it to the file OUT, if one is named.
@@ -27,48 +24,50 @@ lane of which operand lies outside memory, and at what address) and what stands 
 Then the passes and calculations completed; a line for each register that is not fresh: its state, kind and
 width, the elements moved (a coupled pass that holds none counts as one), the flags (a set one by its
 dimension, a clear one as -) and the valid lanes in hexadecimal; and how many bytes of the memory changed.
-",
-    );
-}
+";
 
 // How the program is used.
-const USAGE: [u8; 44] = *b"usage: run VECTOR-LENGTH SHEET MEMORY [OUT]\n";
+const USAGE: &[u8] = b"usage: run VECTOR-LENGTH SHEET MEMORY [OUT]\n";
 
 fn wrong_use(err: &impl Print, what: &[u8]) {
     complain(err, what);
-    complain(err, &USAGE);
+    complain(err, USAGE);
 }
 
 // Writes the verdict of a sheet; of a refusal its meaning, and the line of what stands at its place. 15 has no place.
-fn verdict_words(out: &impl Print, v: Verdict, sheet: &[u8], m: Machine) {
+fn verdict_words(out: &impl Print, v: Result<(), Refused>, sheet: &[u8], m: Machine) {
     match v {
-        Verdict::Done => say(out, b"done\n"),
-        Verdict::Refused(why, place) => {
-            refused(out, why, place);
-            say(out, b"\n");
-            explained_run(out, why, place, sheet, m);
-            say(out, b"\n");
-            if why.number() != 15 {
+        Ok(()) => {
+            let _ = out.println("done");
+        }
+        Err(Refused { refusal, place }) => {
+            refused(out, refusal, place);
+            let _ = out.println("");
+            explained_run(out, refusal, place, sheet, m);
+            let _ = out.println("");
+            if refusal.number() != 15 {
                 lines(out, sheet, place, place);
             }
         }
     }
 }
 
+// Writes how many passes and calculations were completed.
+fn report_words(out: &impl Print, r: Report) {
+    let passes = Counted(r.passes, "pass", "passes");
+    let calculations = Counted(r.calculations, "calculation", "calculations");
+    let _ = println!(out; "{passes}, {calculations}");
+}
+
 // Writes how many bytes of a memory changed. One of more than 65,536 bytes was not read to its end.
 fn last_line(out: &impl Print, err: &impl Print, before: &[u8], after: &[u8]) {
-    decimal(out, changed(before, after) as u64);
-    say(out, b" of ");
-    if 65536 < before.len() {
-        say(out, b"more than 65,536 memory bytes changed");
+    let count = changed(before, after);
+    let bytes = Counted(before.len() as u64, "memory byte", "memory bytes");
+    let _ = if 65536 < before.len() {
+        print!(out; "{count} of more than 65,536 memory bytes changed")
     } else {
-        counted(
-            out,
-            before.len() as u64,
-            b"memory byte changed",
-            b"memory bytes changed",
-        );
-    }
+        print!(out; "{count} of {bytes} changed")
+    };
     write_output(out, err, b"\n");
 }
 
@@ -81,17 +80,9 @@ fn answer_words(
     before: &[u8],
     after: &[u8],
 ) {
-    let verdict = a.verdict;
-    let report = a.report;
     let machine = a.machine;
-    verdict_words(out, verdict, sheet, machine);
-    counted(out, report.passes, b"pass, ", b"passes, ");
-    counted(
-        out,
-        report.calculations,
-        b"calculation\n",
-        b"calculations\n",
-    );
+    verdict_words(out, a.verdict, sheet, machine);
+    report_words(out, a.report);
     registers(out, machine);
     last_line(out, err, before, after);
 }
@@ -128,12 +119,10 @@ fn job<R: Env + Files + Print>(
 
 // Runs a sheet on the memory file that the third argument names.
 fn on_memory<R: Env + Files + Print>(rt: &R, err: &impl Print, vl: u64, sheet: &[u8], named: bool) {
-    let mut before = [0u8; 65537];
-    let taken = read_argument(rt, err, 3, &mut before);
-    let n = taken.count;
-    let stop = taken.stop;
+    let mut before = [0; 65537];
+    let Taken { count: n, stop } = read_argument(rt, err, 3, &mut before);
     if stop.failed() {
-        complain(err, &USAGE);
+        complain(err, USAGE);
         return;
     }
     let mut memory = before;
@@ -152,7 +141,7 @@ fn on_memory<R: Env + Files + Print>(rt: &R, err: &impl Print, vl: u64, sheet: &
 fn main(rt: HostRuntime) {
     let err = rt.stderr();
     if asks_for_help(&rt) {
-        help(&rt);
+        let _ = rt.print(HELP);
         return;
     }
     let count = arg_count(&rt);
@@ -164,15 +153,13 @@ fn main(rt: HostRuntime) {
         wrong_use(&err, b"run takes no more than four arguments\n");
         return;
     }
-    let Decimal::Number(vl) = number_argument(&rt, 1) else {
+    let Some(vl) = number_argument(&rt, 1) else {
         wrong_use(&err, b"the vector length is no number\n");
         return;
     };
-    let mut sheet = [0u8; 65537];
-    let taken = read_argument(&rt, &err, 2, &mut sheet);
-    let n = taken.count;
-    let stop = taken.stop;
-    if is_whole(&err, stop, &USAGE) {
+    let mut sheet = [0; 65537];
+    let Taken { count: n, stop } = read_argument(&rt, &err, 2, &mut sheet);
+    if is_whole(&err, stop, USAGE) {
         on_memory(&rt, &err, vl, &sheet[..n], count == 5);
     }
 }

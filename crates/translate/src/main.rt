@@ -2,17 +2,12 @@
 // standard error.
 #![tactic(auto)]
 
-use codec::refusal::Refusal;
-use translator::nest::Translated;
+use codec::refusal::{Refusal, Refused};
 use translator::translate::translate;
 use words::argument::{arg_count, asks_for_help, complain};
-use words::file::{read_input, write_output};
-use words::text::{decimal, say};
+use words::file::{Taken, read_input, write_output};
 
-fn help(out: &impl Print) {
-    say(
-        out,
-        b"usage: translate < NEST > SHEET
+const HELP: &str = "usage: translate < NEST > SHEET
 
 Reads a loop nest from standard input and writes its sheet to standard output, or nothing if it is refused.
 
@@ -30,59 +25,37 @@ all groups but the last; a signed n is written as 2n, or as -2n-1 if it is below
 A loop's count is its number plus each term times that outer loop's index. At each visit the destination
 becomes the operation of both sources. If the nest is refused, standard error says `refused N at P`, the
 refusal's number and place, and why.
-",
-    );
-}
+";
 
-// Says what a refusal means in a nest.
-fn meaning(err: &impl Print, why: Refusal) {
+// What a refusal means in a nest.
+fn meaning(why: Refusal) -> &'static str {
     match why {
-        Refusal::BadNumber => complain(err, b"a number is cut off, too long or not shortest\n"),
-        Refusal::OutOfRange => complain(
-            err,
-            b"a number out of its range, or bytes after the nest\n",
-        ),
-        Refusal::TooMany => complain(err, b"more than eight terms are not 0\n"),
-        Refusal::LowHigh => complain(
-            err,
-            b"a loop's count can fall below 0 or rise above 4,096\n",
-        ),
-        Refusal::Product => complain(
-            err,
-            b"the product of the loops' largest counts is above 1,048,576\n",
-        ),
-        _ => complain(err, b"there is no room for the sheet\n"),
+        Refusal::BadNumber => "a number is cut off, too long or not shortest",
+        Refusal::OutOfRange => "a number out of its range, or bytes after the nest",
+        Refusal::TooMany => "more than eight terms are not 0",
+        Refusal::LowHigh => "a loop's count can fall below 0 or rise above 4,096",
+        Refusal::Product => "the product of the loops' largest counts is above 1,048,576",
+        _ => "there is no room for the sheet",
     }
-}
-
-// Says on standard error why there is no sheet.
-fn say_refused(err: &impl Print, answer: Translated) {
-    let Translated::Refused(why, place) = answer else {
-        return;
-    };
-    complain(err, b"refused ");
-    decimal(err, why.number());
-    complain(err, b" at ");
-    decimal(err, place as u64);
-    complain(err, b": ");
-    meaning(err, why);
 }
 
 // Writes the sheet of a nest, or says why there is none.
 fn write_sheet(out: &impl Print, err: &impl Print, nest: &[u8]) {
-    let mut room = [0u8; 1024];
-    let answer = translate(nest, &mut room);
-    let Translated::Sheet(behind) = answer else {
-        say_refused(err, answer);
-        return;
-    };
-    write_output(out, err, &room[..behind]);
+    let mut room = [0; 1024];
+    match translate(nest, &mut room) {
+        Ok(behind) => write_output(out, err, &room[..behind]),
+        Err(Refused { refusal, place }) => {
+            let number = refusal.number();
+            let why = meaning(refusal);
+            let _ = println!(err; "refused {number} at {place}: {why}");
+        }
+    }
 }
 
 fn main(rt: HostRuntime) {
     let err = rt.stderr();
     if asks_for_help(&rt) {
-        help(&rt);
+        let _ = rt.print(HELP);
         return;
     }
     if 1 < arg_count(&rt) {
@@ -93,10 +66,8 @@ fn main(rt: HostRuntime) {
         return;
     }
     // No nest is longer than 195 bytes: one that fills this buffer is refused as the whole of it is.
-    let mut nest = [0u8; 257];
-    let taken = read_input(&rt, &err, &mut nest);
-    let n = taken.count;
-    let stop = taken.stop;
+    let mut nest = [0; 257];
+    let Taken { count: n, stop } = read_input(&rt, &err, &mut nest);
     if !stop.failed() {
         write_sheet(&rt, &err, &nest[..n]);
     }

@@ -1,5 +1,5 @@
-mod Signs
-mod Copies
+mod Exits
+mod Chosen
 pub mod Translating
 pub mod Nesting
 pub mod Visiting

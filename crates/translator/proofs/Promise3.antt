@@ -7,6 +7,7 @@
 --   is-done, is_plain    what it answers, and what it leaves
 --   promise3
 use Prim.Native.Nat.{ℕ, ◌/◌, ◌≤◌, ◌<◌}
+use Rattle.std.proofs.Common.{Ok}
 use mathlib.Core.Path.{◌≡◌, refl, sym, ◌∙◌, ap, subst}
 use mathlib.Core.Logic.{◌⊎◌, inl, inr}
 use mathlib.Core.List.{List, [], ◌∷◌, map}
@@ -35,7 +36,6 @@ use Rattle.engine.proofs.Promise1.{Runs, sheet-runs}
 use Rattle.engine.specs.declared.register.State.{State}
 use Rattle.engine.specs.declared.register.State.TheVariants.{Open, Finished}
 use Rattle.engine.specs.declared.run.Placed.{Placed}
-use Rattle.engine.specs.declared.run.Verdict.TheVariants.{Done}
 use Rattle.translator.specs.Fields.{first, second, destination}
 use Rattle.translator.specs.Nests.{visits, width_of, place_of, plain_over, plain_loop, coupling_of}
 use Rattle.translator.specs.Reading.{nest_at, nest_bytes}
@@ -124,7 +124,7 @@ module _ (m : Nest) (ac : Accepted m) (vl : ℕ) (memory : List ℕ) (fits : Fit
         })
 
     -- it is done
-    is-done : (run vl (sheet_of m) memory).verdict ≡ Done
+    is-done : (run vl (sheet_of m) memory).verdict ≡ Ok tt
     is-done = ap (λ r. r.verdict) sheet-run.executes ∙ chunked.done
 
     -- the elements of its chunks

@@ -8,13 +8,12 @@
 --   chunks                            triangles, coupled or not, and how many visits their chunks have
 --   alike                             the sheets of one coupled to its outermost loop, and of a nest without a visit
 --   three_streams                      the streams of the sheet of three loops
-use Rattle.std.specs.Prelude.{ℕ, zero, suc, ◌+◌, ◌≡◌, refl, List, [], ◌∷◌, ◌++◌, map, length, replicate, ℤ, pos, negsuc}
+use Rattle.std.specs.Prelude.{ℕ, zero, suc, ◌+◌, ◌≡◌, refl, List, [], ◌∷◌, ◌++◌, map, length, replicate, ℤ, pos, negsuc, Ok, Some}
 use Rattle.codec.specs.Numbers.{groups_at, number_at, signed_of, groups_of}
 use Rattle.codec.specs.Headers.{word_of}
 use Rattle.codec.specs.Operations.{operation_bytes, calculation_bytes, bytes_of_all}
 use Rattle.codec.specs.declared.header.Kind.TheVariants.{Load, Store}
 use Rattle.codec.specs.declared.header.Width.TheVariants.{H}
-use Rattle.codec.specs.declared.header.Coupling.TheVariants.{Coupled}
 use Rattle.codec.specs.declared.operation.Action.TheVariants as action
 use Rattle.codec.specs.declared.operation.Behaviour.{Behaviour}
 use Rattle.codec.specs.declared.operation.Behaviour.TheVariants as behaviour
@@ -27,9 +26,8 @@ use Rattle.engine.specs.Rules.{only, highs, product}
 use Rattle.engine.specs.Rules
 use Rattle.engine.specs.Addresses.{address_up_to, address}
 use Rattle.engine.specs.Checks.{first_of}
-use Rattle.engine.specs.ShapeCheck.{some, check_shape}
+use Rattle.engine.specs.ShapeCheck.{check_shape}
 use Rattle.engine.specs.Given.{pattern_of, ended, given_from, given_for}
-use Rattle.engine.specs.declared.check.Why.TheVariants.{Nothing}
 use Rattle.engine.specs.declared.stream.Modifier.{Modifier}
 use Rattle.translator.specs.Fields.{term_fields, loop_fields, stride_fields, no_nest}
 use Rattle.translator.specs.Nests.{terms_at, count_at, visits, place_up_to, place_of, chunk_at, visits_among}
@@ -157,7 +155,7 @@ pub three_loops :
     × (highs_of three ≡ 4 ∷ 3 ∷ 2 ∷ [])
     × (modifiers_of three ≡ sized 1 0 behaviour.Add 1 ∷ sized 2 0 behaviour.Subtract 1 ∷ sized 2 1 behaviour.Add 2 ∷ [])
     × (sheet_ops three
-    ≡ op.Open (record { kind = Load; width = H; register = 1; coupling = Coupled 2 }) (record { 0 = pos 10 })
+    ≡ op.Open (record { kind = Load; width = H; register = 1; coupling = Some 2 }) (record { 0 = pos 10 })
     ∷ dimension 1 2 (pos 1)
     ∷ dimension 1 1 (pos 8)
     ∷ modifier 1 0 behaviour.Add 1
@@ -165,7 +163,7 @@ pub three_loops :
     ∷ modifier 1 0 behaviour.Subtract 1
     ∷ modifier 1 1 behaviour.Add 2
     ∷ op.End 1
-    ∷ op.Open (record { kind = Load; width = H; register = 2; coupling = Coupled 2 }) (record { 0 = pos 200 })
+    ∷ op.Open (record { kind = Load; width = H; register = 2; coupling = Some 2 }) (record { 0 = pos 200 })
     ∷ dimension 2 2 (negsuc 0)
     ∷ dimension 2 1 (pos 3)
     ∷ modifier 2 0 behaviour.Add 1
@@ -173,7 +171,7 @@ pub three_loops :
     ∷ modifier 2 0 behaviour.Subtract 1
     ∷ modifier 2 1 behaviour.Add 2
     ∷ op.End 2
-    ∷ op.Open (record { kind = Store; width = H; register = 3; coupling = Coupled 2 }) (record { 0 = pos 300 })
+    ∷ op.Open (record { kind = Store; width = H; register = 3; coupling = Some 2 }) (record { 0 = pos 300 })
     ∷ dimension 3 2 (pos 2)
     ∷ dimension 3 1 (pos 0)
     ∷ modifier 3 0 behaviour.Add 1
@@ -276,9 +274,9 @@ pub three_streams :
     × (given_for 3 (sheet_ops three) ≡ ended (stream_of three 3 Store three.destination))
     × (pattern_of (stream_of three 1 Load three.first) ≡ pattern_for three three.first)
     × (pattern_of (stream_of three 3 Store three.destination) ≡ pattern_for three three.destination)
-    × (check_shape (shape_of three) ≡ Nothing)
+    × (check_shape (shape_of three) ≡ Ok tt)
     × (elements (shape_of three) ≡ visits three)
     × (map (address (pattern_for three three.second) 2) (visits three) ≡ map (place_of three three.second) (visits three))
-unfolding given_from modifiers_at modifiers_from dimensions_from dimension_ops three check_shape first_of some
+unfolding given_from modifiers_at modifiers_from dimensions_from dimension_ops three check_shape first_of
     size_at added span loops elements only highs Rules.low_or_high_from product address_up_to terms_at count_at visits place_up_to
 three_streams = (refl, refl, refl, refl, refl, refl, refl, refl)

@@ -4,7 +4,7 @@
 --   rules-kept, rules-broken     a nest that no rule refuses; one that a rule refuses
 --   coupling-in                  a coupled loop is a coupling in range
 --   shape-checked, shape-accepted   the shape of an accepted nest passes the engine's checks
-use Rattle.std.specs.Prelude.{ℕ, zero, suc, ◌+◌, ◌-◌, ◌≤◌, ◌<◌, ◌≡◌, refl, ◌⊎◌, ◌↔◌, map, Bool, true, false, ◌||◌, get_or, drop, ltb}
+use Rattle.std.specs.Prelude.{ℕ, zero, suc, ◌+◌, ◌-◌, ◌≤◌, ◌<◌, ◌≡◌, refl, ◌⊎◌, ◌↔◌, map, Bool, true, false, ◌||◌, get_or, drop, ltb, Ok, Err}
 use Rattle.std.proofs.Common.{sym, ◌∙◌, ap, subst, inl, inr, arith, ltb-true, ltb-false, lt-ltb, le-ltb, le-leb}
 use Rattle.std.proofs.Math.Decide.{dec_lt}
 use Rattle.codec.specs.Headers.{coupling_in_range}
@@ -19,7 +19,6 @@ use Rattle.engine.specs.Good.{Ranged}
 use Rattle.engine.specs.Good
 use Rattle.engine.specs.ShapeCheck.{check_shape}
 use Rattle.engine.specs.ShapeLaws.{shape-passed}
-use Rattle.engine.specs.declared.check.Why.TheVariants.{Nothing, Because}
 use Rattle.translator.specs.NestRules.{nonzero_of, highs_from, highs_of, lasts_outside, high_of, less_of, low_or_high_from, low_or_high, checks_of}
 use Rattle.translator.specs.Acceptance.{Accepted, LowHighKept, Breaks, many, low-high, large}
 use Rattle.translator.specs.declared.nest.Nest.{Nest}
@@ -102,7 +101,7 @@ abbrev AllKept : Nest → Type 0
 AllKept m = (nonzero_of m ≤ 8) × LowHighKept m × (product (highs_of m) ≤ 1048576)
 
 -- then no rule refuses the nest
-kept-clear : (m : Nest) → AllKept m → first_of (checks_of m) ≡ Nothing
+kept-clear : (m : Nest) → AllKept m → first_of (checks_of m) ≡ Ok tt
 kept-clear m h = rules-first m ∙ rw (le-ltb 8 (nonzero_of m) h.0, (low-high-kept m).1 h.1, le-ltb 1048576 (product (highs_of m)) h.2)
 
 -- the rule of 8 refuses what it does not keep
@@ -114,7 +113,7 @@ not-kept m h = go (low_or_high m) refl
     go false e = absurd (h ((low-high-kept m).0 e))
 
 -- a rule that is broken refuses the nest
-broken-first : (m : Nest) (x : Refusal) → Breaks m x → first_of (checks_of m) ≡ Because x
+broken-first : (m : Nest) (x : Refusal) → Breaks m x → first_of (checks_of m) ≡ Err x
 broken-first m x (many e h) = rules-first m ∙ rw (lt-ltb 8 (nonzero_of m) h, is-numbered x 6 e refl)
 broken-first m x (low-high e h k) = rules-first m ∙ rw (le-ltb 8 (nonzero_of m) h, not-kept m k, is-numbered x 8 e refl)
 broken-first m x (large e h k l) = rules-first m ∙ rw (le-ltb 8 (nonzero_of m) h, (low-high-kept m).1 k, lt-ltb 1048576 (product (highs_of m)) l, is-numbered x 9 e refl)
@@ -132,18 +131,18 @@ kept-or-broken m = go (ltb 8 (nonzero_of m)) (low_or_high m) (ltb 1048576 (produ
         inl (ltb-false 8 (nonzero_of m) e, (low-high-kept m).0 f, ltb-false 1048576 (product (highs_of m)) g)
 
 -- no rule refuses a nest exactly if all are kept
-pub rules-kept : (m : Nest) → (first_of (checks_of m) ≡ Nothing) ↔ ((nonzero_of m ≤ 8) × LowHighKept m × (product (highs_of m) ≤ 1048576))
+pub rules-kept : (m : Nest) → (first_of (checks_of m) ≡ Ok tt) ↔ ((nonzero_of m ≤ 8) × LowHighKept m × (product (highs_of m) ≤ 1048576))
 rules-kept m = (λ e. go e (kept-or-broken m), kept-clear m)
   where
-    go : first_of (checks_of m) ≡ Nothing → AllKept m ⊎ ((x : Refusal) × Breaks m x) → AllKept m
+    go : first_of (checks_of m) ≡ Ok tt → AllKept m ⊎ ((x : Refusal) × Breaks m x) → AllKept m
     go e (inl k) = k
     go e (inr (x, k)) = absurd (let f = broken-first m x k in let z : ◌≡◌ {A = ℕ} 0 1 = cc in omega arith)
 
 -- one refuses it exactly if it is the first that is broken
-pub rules-broken : (m : Nest) (x : Refusal) → (first_of (checks_of m) ≡ Because x) ↔ Breaks m x
+pub rules-broken : (m : Nest) (x : Refusal) → (first_of (checks_of m) ≡ Err x) ↔ Breaks m x
 rules-broken m x = (λ e. go e (kept-or-broken m), broken-first m x)
   where
-    go : first_of (checks_of m) ≡ Because x → AllKept m ⊎ ((y : Refusal) × Breaks m y) → Breaks m x
+    go : first_of (checks_of m) ≡ Err x → AllKept m ⊎ ((y : Refusal) × Breaks m y) → Breaks m x
     go e (inl k) = absurd (let f = kept-clear m k in let z : ◌≡◌ {A = ℕ} 0 1 = cc in omega arith)
     go e (inr (y, k)) = let f = broken-first m y k in let z : y ≡ x = cc in subst (Breaks m) z k
 
@@ -155,7 +154,7 @@ coupling-in zero h = refl
 coupling-in (suc c) h = rw (le-leb 1 (suc c) (omega arith), le-leb (suc c) 7 h)
 
 -- the shape of an accepted nest passes the checks of shapes
-pub shape-checked : (m : Nest) → Accepted m → check_shape (shape_of m) ≡ Nothing
+pub shape-checked : (m : Nest) → Accepted m → check_shape (shape_of m) ≡ Ok tt
 shape-checked m a = sym (checks-shape m a.range a.tidy) ∙ (rules-kept m).1 (a.few, a.low-high, a.small)
 
 -- and end accepts it

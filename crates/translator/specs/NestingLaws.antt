@@ -4,24 +4,20 @@
 --   read_through, read-fault, read-either   numbers read one by one: all of them, or the refusal of the first fault
 --   accepted-read, refused-read          an accepted nest is read from its bytes; the refusals are given
 --   NestOrRefusal, nest-answer           every list of bytes is an accepted nest, or has its refusal
-use Rattle.std.specs.Prelude.{ℕ, ◌<◌, ◌≡◌, refl, ◌⊎◌, ◌↔◌, List, [], ◌∷◌, Bool, true, false, length, leb, nat_abs}
+use Rattle.std.specs.Prelude.{ℕ, ◌<◌, ◌≡◌, refl, ◌⊎◌, ◌↔◌, List, [], ◌∷◌, Bool, true, false, Some, None, length, leb, nat_abs, Ok, Err}
 use Rattle.std.proofs.Common.{sym, ◌∙◌, ap, subst, inl, inr, arith, lt-ltb, le-ltb}
 use Rattle.std.proofs.Math.Decide.{dec_lt}
 use Rattle.codec.specs.TestLaws.{never}
 use Rattle.codec.specs.Refusals.{is-numbered}
-use Rattle.codec.specs.Numbers.{number_at, signed_of}
+use Rattle.codec.specs.Numbers.{Number, number_at, signed_of}
 use Rattle.codec.specs.NumberLaws.{AreBytes, Stands}
 use Rattle.codec.specs.StandingLaws.{stands-all, all-stand}
-use Rattle.codec.specs.declared.number.Number.{Number}
-use Rattle.codec.specs.declared.number.Number.TheVariants.{Value, NoNumber}
 use Rattle.codec.specs.declared.refusal.Refusal.{Refusal}
 use Rattle.codec.specs.declared.refusal.Refusal.TheVariants.{BadNumber, OutOfRange}
 use Rattle.engine.specs.Promise1.{NumberAt}
-use Rattle.engine.specs.Checks.{first_of}
+use Rattle.engine.specs.Checks.{first_of, Why}
 use Rattle.engine.specs.AllowedLaws.{fails, leb-plain, and-plain}
 use Rattle.engine.specs.FieldLaws.{number-there, there-number, no_number}
-use Rattle.engine.specs.declared.check.Why.{Why}
-use Rattle.engine.specs.declared.check.Why.TheVariants.{Nothing, Because}
 use Rattle.translator.specs.Fields.{Field, head_fields, rest_fields, Range, between, reach, range_of, holds, Holds, no_nest, put}
 use Rattle.translator.specs.NestRules.{checks_of}
 use Rattle.translator.specs.KeptRules.{rules-kept, rules-broken}
@@ -75,8 +71,8 @@ read-either s p (f ∷ fs) at m = go (number_at s at) refl (λ v to. read-either
     held v to h true e (inr (n, end, r)) = inr (n, end, (v, to, h, (holds_plain (range_of m.loops f) v).0 e, r))
 
     go : (r : Number) → number_at s at ≡ r → ((v to : ℕ) → Either fs to (put f v m)) → Either (f ∷ fs) at m
-    go NoNumber e ih = inl (BadNumber, at, Fault.unread refl refl ((no_number s at p).0 e))
-    go (Value v c) e ih = held v c.at (there-number s at v c p e) (holds (range_of m.loops f) v) refl (ih v c.at)
+    go None e ih = inl (BadNumber, at, Fault.unread refl refl ((no_number s at p).0 e))
+    go (Some (v, c)) e ih = held v c.at (there-number s at v c p e) (holds (range_of m.loops f) v) refl (ih v c.at)
 
 -- ---- a nest
 
@@ -116,10 +112,10 @@ pub nest-answer : (s : List ℕ) → AreBytes s → NestOrRefusal s
 nest-answer s p = head (read-either s p head_fields 0 no_nest)
   where
     ruled : (n : Nest) → InRange n → Tidy n → s ≡ nest_bytes n → (w : Why) → first_of (checks_of n) ≡ w → NestOrRefusal s
-    ruled n r d e Nothing f =
+    ruled n r d e (Ok _) f =
         let k = (rules-kept n).0 f in
         inl (n, record { range = r; tidy = d; few = k.0; low-high = k.1; small = k.2 }, e)
-    ruled n r d e (Because x) f = inr (x, 0, Refuses.rule n r d e ((rules-broken n x).0 f) refl)
+    ruled n r d e (Err x) f = inr (x, 0, Refuses.rule n r d e ((rules-broken n x).0 f) refl)
 
     ended : (n : Nest) (to : ℕ) → InRange n → Tidy n → Stands s 0 (nest_bytes n) to → Dec (to < length s) → NestOrRefusal s
     ended n to r d h (yes l) = inr (OutOfRange, to, Refuses.trailing n r d h l refl)

@@ -8,11 +8,9 @@
 --
 -- Loops are counted from 0 here, innermost first. A visit is its index vector, innermost index first. The outer indices of loop t,
 -- `outer`, are those of loops t + 1, t + 2, .., in that order.
-use Rattle.std.specs.Prelude.{ℕ, zero, suc, ◌*◌, List, [], ◌∷◌, get_or, ℤ, pos, ◌+ℤ◌, ◌*ℤ◌}
+use Rattle.std.specs.Prelude.{ℕ, zero, suc, ◌*◌, List, [], ◌∷◌, get_or, ℤ, pos, ◌+ℤ◌, ◌*ℤ◌, Option, Some, None}
 use Rattle.std.proofs.lemmas.List.Edits.{sets}
 use Rattle.codec.specs.Headers.{bytes_of}
-use Rattle.codec.specs.declared.header.Coupling.{Coupling}
-use Rattle.codec.specs.declared.header.Coupling.TheVariants.{Uncoupled, Coupled}
 use Rattle.engine.specs.Loops.{natural, loops}
 use Rattle.engine.specs.Chunks.{stops_in, elements_among, groups, chunk_of}
 use Rattle.engine.specs.Addresses.{no_elements, in_bytes}
@@ -76,9 +74,9 @@ plain_loop m memory = plain_over m memory (visits m)
 -- ---- chunks
 
 -- "coupled loop 0 to D (0 none)"
-abbrev pub coupling_of : ℕ → Coupling
-coupling_of zero = Uncoupled
-coupling_of (suc c) = Coupled (suc c)
+abbrev pub coupling_of : ℕ → Option ℕ
+coupling_of zero = None
+coupling_of (suc c) = Some (suc c)
 
 -- where a nest stops: at each visit, and (02, 3/14) once in each pass of the coupled loop that holds none
 abbrev pub nest_stops : Nest → List (List ℕ)

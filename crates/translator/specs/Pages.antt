@@ -3,13 +3,12 @@
 --   Blank                              a page on which nothing is written
 --   place_after, put_one, put_all, put_calculation   one operation more, those of a list, one calculation more
 --   SheetPage                          a page with the sheet of a nest
-use Rattle.std.specs.Prelude.{ℕ, ◌≡◌, List, [], ◌∷◌, ◌++◌, length}
+use Rattle.std.specs.Prelude.{ℕ, ◌≡◌, List, [], ◌∷◌, ◌++◌, length, Result, Ok, Err}
 use Rattle.codec.specs.Operations.{operation_in_range, operation_bytes, calculation_in_range, calculation_bytes}
 use Rattle.codec.specs.Writing.{written_to, bytes_after}
 use Rattle.codec.specs.declared.operation.Operation.{Operation}
 use Rattle.codec.specs.declared.operation.Calculation.{Calculation}
-use Rattle.codec.specs.declared.writing.Written.{Written}
-use Rattle.codec.specs.declared.writing.Written.TheVariants.{To, NoRoom, OutOfRange}
+use Rattle.codec.specs.declared.writing.Unwritten.{Unwritten}
 use Rattle.translator.specs.NestSheets.{sheet_ops, run_op, calculation_of}
 use Rattle.translator.specs.declared.nest.Nest.{Nest}
 use Rattle.translator.specs.declared.write.Page.{Page}
@@ -20,10 +19,9 @@ pub record Blank (p : Page) : Type 0 where
   pub long : length p.bytes ≡ 1024
 
 -- the place behind what was written; where nothing was, the place as it was
-abbrev pub place_after : Written → ℕ → ℕ
-place_after (To behind) at = behind
-place_after NoRoom at = at
-place_after OutOfRange at = at
+abbrev pub place_after : Result ℕ Unwritten → ℕ → ℕ
+place_after (Ok behind) at = behind
+place_after (Err why) at = at
 
 -- a page with one operation more
 unfoldable pub put_one : Operation → Page → Page

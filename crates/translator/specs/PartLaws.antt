@@ -8,43 +8,38 @@
 --   stride-none, stride-over, stride-next, access-none, access-over, access-next   the numbers of an access
 --   read-access                           an access read by itself is its numbers put into the nest
 use Prim.Native.Nat.{ℕ, zero, suc, ◌+◌, ◌-◌, ◌≤◌, ◌<◌}
-use Rattle.std.specs.Prelude.{◌≡◌, refl, List, [], ◌∷◌, ◌++◌, Bool, true, false, cond, ◌&&◌, ℤ, leb}
+use Rattle.std.specs.Prelude.{◌≡◌, refl, List, [], ◌∷◌, ◌++◌, Bool, true, false, cond, ◌&&◌, ℤ, leb, Option, Some, None, Result, Ok, Err}
 use Rattle.std.proofs.Common.{sym, ◌∙◌, le-leb}
 use native.Mathlib.Omega.{arith}
 use Rattle.std.proofs.lemmas.Bool.{lt-leb}
-use Rattle.codec.specs.Numbers.{number_at, signed_at, signed_of, as_signed}
-use Rattle.codec.specs.Operations.{field, signed_field, is_reach}
+use Rattle.codec.specs.Numbers.{Number, number_at, signed_at, signed_of, as_signed}
+use Rattle.codec.specs.Operations.{field, is_reach}
+use Rattle.codec.specs.Refusals.{err_at}
 use Rattle.codec.specs.declared.number.Cursor.{Cursor}
-use Rattle.codec.specs.declared.number.Number.{Number}
-use Rattle.codec.specs.declared.number.Number.TheVariants.{Value, NoNumber}
-use Rattle.codec.specs.declared.number.Signed.TheVariants.{Whole, NoWhole}
 use Rattle.codec.specs.declared.refusal.Refusal.{Refusal}
 use Rattle.codec.specs.declared.refusal.Refusal.TheVariants.{BadNumber, OutOfRange}
-use Rattle.engine.specs.declared.run.Verdict.{Verdict}
-use Rattle.engine.specs.declared.run.Verdict.TheVariants.{Done, Refused}
+use Rattle.codec.specs.declared.refusal.Refused.{Refused}
 use Rattle.translator.specs.Fields.{Role, first, second, destination, Field, count, term_fields, loop_fields, stride_fields, access_fields, between, range_of, holds, put, access_of, with_access, with_base, with_stride, with_term}
 use Rattle.translator.specs.Reading.{Read, up_to, refused, read_from, on_read}
-use Rattle.translator.specs.Parts.{is_refused, read_of, part_of, access_read, side_of, ReadAccess, read, unread, strides_at, access_at}
+use Rattle.translator.specs.Parts.{within, number_within, signed_within, part_of, side_of, ReadAccess, read, unread, strides_at, access_at}
 use Rattle.translator.specs.declared.nest.Access.{Access}
 use Rattle.translator.specs.declared.nest.Nest.{Nest}
-use Rattle.translator.specs.declared.read.Part.{Part}
-use Rattle.translator.specs.declared.read.Side.{Side}
 
 -- ---- one number
 
 module _ (s : List ℕ) (f : Field) (fs : List Field) (at : ℕ) (m : Nest) where
   -- no number: refused with 1
-  pub read_none : number_at s at ≡ NoNumber → read_from s (f ∷ fs) at m ≡ refused BadNumber at
+  pub read_none : number_at s at ≡ None → read_from s (f ∷ fs) at m ≡ refused BadNumber at
   unfolding read_from
   read_none e = rw e
 
   -- out of range: refused with 2
-  pub read-over : {v : ℕ} {c : Cursor} → number_at s at ≡ Value v c → holds (range_of m.loops f) v ≡ false → read_from s (f ∷ fs) at m ≡ refused OutOfRange at
+  pub read-over : {v : ℕ} {c : Cursor} → number_at s at ≡ Some (v, c) → holds (range_of m.loops f) v ≡ false → read_from s (f ∷ fs) at m ≡ refused OutOfRange at
   unfolding read_from
   read-over e h = rw (e, h)
 
   -- in range: it is put in, and the next numbers are read
-  pub read_next : {v : ℕ} {c : Cursor} → number_at s at ≡ Value v c → holds (range_of m.loops f) v ≡ true → read_from s (f ∷ fs) at m ≡ read_from s fs c.at (put f v m)
+  pub read_next : {v : ℕ} {c : Cursor} → number_at s at ≡ Some (v, c) → holds (range_of m.loops f) v ≡ true → read_from s (f ∷ fs) at m ≡ read_from s fs c.at (put f v m)
   unfolding read_from
   read_next e h = rw (e, h)
 
@@ -60,20 +55,38 @@ under least n most h = rw (lt-leb least n h)
 pub over : (least n most : ℕ) → least ≤ n → most < n → (leb least n && leb n most) ≡ false
 over least n most h k = rw (le-leb least n h, lt-leb n most k)
 
--- ---- as the code keeps it
+-- ---- as the code reads it
 
--- a refusal, with any nest beside it
-pub stop : {v : Verdict} {x : Refusal} {place : ℕ} {r : Read} (m : Nest) (at : ℕ) → v ≡ Refused x place → r ≡ refused x place → read_of v m at ≡ r
-stop m at e f = rw e (sym f)
+-- what follows on a number with the place behind it; a refusal stays
+abbrev pub on_number : {N A : Type 0} → (Refusal → ℕ → A) → Result (N × Cursor) Refused → (N → ℕ → A) → A
+on_number refuse (Ok (n, c)) next = next n c.at
+on_number refuse (Err r) next = refuse r.refusal r.place
 
--- a refusal, with any access beside it
-pub stop-side : {v : Verdict} {x : Refusal} {place : ℕ} {r : ReadAccess} (a : Access) (at : ℕ) → v ≡ Refused x place → r ≡ unread x place → access_read v a at ≡ r
-stop-side a at e f = rw e (sym f)
+-- a test decides alike at once, or on the number as the code has it
+on-test : {N A : Type 0} (b : Bool) (n : N) (c : Cursor) (at : ℕ) (refuse : Refusal → ℕ → A) (next : N → ℕ → A)
+    → cond b (next n c.at) (refuse OutOfRange at) ≡ on_number refuse (cond b (Ok (n, c)) (err_at at OutOfRange)) next
+on-test true n c at refuse next = refl
+on-test false n c at refuse next = refl
 
--- numbers that were read
-pub is_read : (v : Verdict) (m : Nest) (at : ℕ) → is_refused v ≡ false → read_of v m at ≡ up_to m at
-is_read Done m at e = refl
-is_read (Refused x place) m at e = absurd (let z : ◌≡◌ {A = ℕ} 0 1 = cc in omega arith)
+-- a number is read, checked and gone on with alike at once, or as the code has it
+pub within-then : {N A : Type 0} (n : Option (N × Cursor)) (allowed : N → Bool) (at : ℕ) (refuse : Refusal → ℕ → A) (next : N → ℕ → A)
+    → field (λ x. refuse x at) n allowed next ≡ on_number refuse (within n allowed at) next
+within-then None allowed at refuse next = refl
+within-then (Some (n, c)) allowed at refuse next = on-test (allowed n) n c at refuse next
+
+-- the number of a field, then the others
+module _ (s : List ℕ) (f : Field) (fs : List Field) (at : ℕ) (m : Nest) where
+  number-step : read_from s (f ∷ fs) at m ≡ on_number refused (number_within s at (holds (range_of m.loops f))) (λ n to. read_from s fs to (put f n m))
+  unfolding read_from
+  number-step = within-then (number_at s at) (holds (range_of m.loops f)) at refused (λ n to. read_from s fs to (put f n m))
+
+  -- refused: so are all the fields
+  pub number-stays : {r : Refused} → Err r ≡ number_within s at (holds (range_of m.loops f)) → part_of (Err r) ≡ read_from s (f ∷ fs) at m
+  number-stays e = sym (number-step ∙ rw (sym e))
+
+  -- in range: it is put in, and the next numbers are read
+  pub number-goes : {n : ℕ} {c : Cursor} → Ok (n, c) ≡ number_within s at (holds (range_of m.loops f)) → read_from s (f ∷ fs) at m ≡ read_from s fs c.at (put f n m)
+  number-goes e = number-step ∙ rw (sym e)
 
 -- ---- some fields, then others
 
@@ -87,8 +100,8 @@ cond-then false r r' x at k e = refl
 field-then : (n : Number) (allowed : ℕ → Bool) (at : ℕ) (next next' : ℕ → ℕ → Read) (k : Nest → ℕ → Read)
     → ((v to : ℕ) → next v to ≡ on_read refused (next' v to) k)
     → field (λ x. refused x at) n allowed next ≡ on_read refused (field (λ x. refused x at) n allowed next') k
-field-then NoNumber allowed at next next' k e = refl
-field-then (Value v c) allowed at next next' k e = cond-then (allowed v) (next v c.at) (next' v c.at) OutOfRange at k (e v c.at)
+field-then None allowed at next next' k e = refl
+field-then (Some (v, c)) allowed at next next' k e = cond-then (allowed v) (next v c.at) (next' v c.at) OutOfRange at k (e v c.at)
 
 -- some fields, then others
 pub read-then : (s : List ℕ) (fs gs : List Field) (at : ℕ) (m : Nest)
@@ -100,40 +113,29 @@ read-then s (f ∷ fs) gs at m =
     (λ n to. read_from s gs to n)
     (λ v to. read-then s fs gs to (put f v m))
 
--- a refusal stays, whatever follows
-stays : (v : Verdict) (m : Nest) (at : ℕ) (k : Nest → ℕ → Read) → is_refused v ≡ true → on_read refused (read_of v m at) k ≡ read_of v m at
-stays Done m at k e = absurd (let z : ◌≡◌ {A = ℕ} 0 1 = cc in omega arith)
-stays (Refused x place) m at k e = refl
-
--- where the numbers were read, what follows goes on with them
-pub goes : {A : Type 0} (refuse : Refusal → ℕ → A) (v : Verdict) (m : Nest) (at : ℕ) (k : Nest → ℕ → A) → is_refused v ≡ false
-    → on_read refuse (read_of v m at) k ≡ k m at
-goes refuse Done m at k e = refl
-goes refuse (Refused x place) m at k e = absurd (let z : ◌≡◌ {A = ℕ} 0 1 = cc in omega arith)
-
--- as the code keeps it: what was read of some fields is refused, or leads on to the others
-module _ (s : List ℕ) (fs gs : List Field) (at : ℕ) (m : Nest) (p : Part) (e : part_of p ≡ read_from s fs at m) where
+-- as the code reads it: what was read of some fields is refused, or leads on to the others
+module _ (s : List ℕ) (fs gs : List Field) (at : ℕ) (m : Nest) where
   -- refused: so are all the fields
-  pub then-stays : is_refused p.verdict ≡ true → part_of p ≡ read_from s (fs ++ gs) at m
-  then-stays h = sym (read-then s fs gs at m ∙ rw (sym e) (stays p.verdict p.nest p.cursor.at (λ n q. read_from s gs q n) h))
+  pub then-stays : {r : Refused} → part_of (Err r) ≡ read_from s fs at m → part_of (Err r) ≡ read_from s (fs ++ gs) at m
+  then-stays e = sym (read-then s fs gs at m ∙ rw (sym e))
 
   -- not refused: the others are read behind them
-  pub then-goes : is_refused p.verdict ≡ false → read_from s (fs ++ gs) at m ≡ read_from s gs p.cursor.at p.nest
-  then-goes h = read-then s fs gs at m ∙ rw (sym e) (goes refused p.verdict p.nest p.cursor.at (λ n q. read_from s gs q n) h)
+  pub then-goes : {n : Nest} {c : Cursor} → part_of (Ok (n, c)) ≡ read_from s fs at m → read_from s (fs ++ gs) at m ≡ read_from s gs c.at n
+  then-goes e = read-then s fs gs at m ∙ rw (sym e)
 
 -- ---- signed numbers
 
 -- a number read and then taken as signed
 pub as-signed : {A : Type 0} (n : Number) (refuse : Refusal → A) (next : ℤ → ℕ → A)
-    → field refuse n (λ v. is_reach (signed_of v)) (λ v to. next (signed_of v) to) ≡ signed_field refuse (as_signed n) is_reach next
-as-signed NoNumber refuse next = refl
-as-signed (Value v c) refuse next = refl
+    → field refuse n (λ v. is_reach (signed_of v)) (λ v to. next (signed_of v) to) ≡ field refuse (as_signed n) is_reach next
+as-signed None refuse next = refl
+as-signed (Some (v, c)) refuse next = refl
 
 -- the term of loop t for loop o, and those for the loops outside it, up to loop n
 module _ (s : List ℕ) (t o n : ℕ) (at : ℕ) (m : Nest) (h : o < n) where
   -- one term is read, checked and put in, then the others
   term-step : read_from s (term_fields t o (n - o)) at m
-      ≡ signed_field (λ x. refused x at) (signed_at s at) is_reach (λ z to. read_from s (term_fields t (o + 1) (n - (o + 1))) to (with_term t o z m))
+      ≡ field (λ x. refused x at) (signed_at s at) is_reach (λ z to. read_from s (term_fields t (o + 1) (n - (o + 1))) to (with_term t o z m))
   unfolding read_from term_fields
   term-step =
       let e : n - o ≡ suc (n - (o + 1)) = omega arith in
@@ -142,17 +144,26 @@ module _ (s : List ℕ) (t o n : ℕ) (at : ℕ) (m : Nest) (h : o < n) where
       (as-signed (number_at s at) (λ x. refused x at) (λ z to. read_from s (term_fields t (suc o) (n - suc o)) to (with_term t o z m)))
 
   -- no number: refused with 1
-  pub term-none : signed_at s at ≡ NoWhole → read_from s (term_fields t o (n - o)) at m ≡ refused BadNumber at
+  pub term-none : signed_at s at ≡ None → read_from s (term_fields t o (n - o)) at m ≡ refused BadNumber at
   term-none e = term-step ∙ rw e
 
   -- out of range: refused with 2
-  pub term-over : {z : ℤ} {c : Cursor} → signed_at s at ≡ Whole z c → is_reach z ≡ false → read_from s (term_fields t o (n - o)) at m ≡ refused OutOfRange at
+  pub term-over : {z : ℤ} {c : Cursor} → signed_at s at ≡ Some (z, c) → is_reach z ≡ false → read_from s (term_fields t o (n - o)) at m ≡ refused OutOfRange at
   term-over e k = term-step ∙ rw (e, k)
 
   -- in range: it is put in, and the next terms are read
-  pub term-next : {z : ℤ} {c : Cursor} → signed_at s at ≡ Whole z c → is_reach z ≡ true
+  pub term-next : {z : ℤ} {c : Cursor} → signed_at s at ≡ Some (z, c) → is_reach z ≡ true
       → read_from s (term_fields t o (n - o)) at m ≡ read_from s (term_fields t (o + 1) (n - (o + 1))) c.at (with_term t o z m)
   term-next e k = term-step ∙ rw (e, k)
+
+  -- as the code reads it: refused
+  pub term-stays : {r : Refused} → Err r ≡ signed_within s at → part_of (Err r) ≡ read_from s (term_fields t o (n - o)) at m
+  term-stays e = sym (term-step ∙ within-then (signed_at s at) is_reach at refused _ ∙ rw (sym e))
+
+  -- as the code reads it: it is put in, and the next terms are read
+  pub term-goes : {z : ℤ} {c : Cursor} → Ok (z, c) ≡ signed_within s at
+      → read_from s (term_fields t o (n - o)) at m ≡ read_from s (term_fields t (o + 1) (n - (o + 1))) c.at (with_term t o z m)
+  term-goes e = term-step ∙ within-then (signed_at s at) is_reach at refused _ ∙ rw (sym e)
 
 -- no term is left: nothing more is read
 pub terms-end : (s : List ℕ) (t o n at : ℕ) (m : Nest) → n ≤ o → read_from s (term_fields t o (n - o)) at m ≡ up_to m at
@@ -180,7 +191,7 @@ loops-end s t n at m h = let e : n - t ≡ 0 = omega arith in rw e
 module _ (s : List ℕ) (d n : ℕ) (at : ℕ) (a : Access) (h : d < n) where
   -- one stride is read, checked and put in, then the others
   stride-step : strides_at s d (n - d) at a
-      ≡ signed_field (λ x. unread x at) (signed_at s at) is_reach (λ z to. strides_at s (d + 1) (n - (d + 1)) to (with_stride d z a))
+      ≡ field (λ x. unread x at) (signed_at s at) is_reach (λ z to. strides_at s (d + 1) (n - (d + 1)) to (with_stride d z a))
   unfolding strides_at
   stride-step =
       let e : n - d ≡ suc (n - (d + 1)) = omega arith in
@@ -188,17 +199,26 @@ module _ (s : List ℕ) (d n : ℕ) (at : ℕ) (a : Access) (h : d < n) where
       rw (e, f)
 
   -- no number: refused with 1
-  pub stride-none : signed_at s at ≡ NoWhole → strides_at s d (n - d) at a ≡ unread BadNumber at
+  pub stride-none : signed_at s at ≡ None → strides_at s d (n - d) at a ≡ unread BadNumber at
   stride-none e = stride-step ∙ rw e
 
   -- out of range: refused with 2
-  pub stride-over : {z : ℤ} {c : Cursor} → signed_at s at ≡ Whole z c → is_reach z ≡ false → strides_at s d (n - d) at a ≡ unread OutOfRange at
+  pub stride-over : {z : ℤ} {c : Cursor} → signed_at s at ≡ Some (z, c) → is_reach z ≡ false → strides_at s d (n - d) at a ≡ unread OutOfRange at
   stride-over e k = stride-step ∙ rw (e, k)
 
   -- in range: it is put in, and the next strides are read
-  pub stride-next : {z : ℤ} {c : Cursor} → signed_at s at ≡ Whole z c → is_reach z ≡ true
+  pub stride-next : {z : ℤ} {c : Cursor} → signed_at s at ≡ Some (z, c) → is_reach z ≡ true
       → strides_at s d (n - d) at a ≡ strides_at s (d + 1) (n - (d + 1)) c.at (with_stride d z a)
   stride-next e k = stride-step ∙ rw (e, k)
+
+  -- as the code reads it: refused
+  pub stride-stays : {r : Refused} → Err r ≡ signed_within s at → side_of (Err r) ≡ strides_at s d (n - d) at a
+  stride-stays e = sym (stride-step ∙ within-then (signed_at s at) is_reach at unread _ ∙ rw (sym e))
+
+  -- as the code reads it: it is put in, and the next strides are read
+  pub stride-goes : {z : ℤ} {c : Cursor} → Ok (z, c) ≡ signed_within s at
+      → strides_at s d (n - d) at a ≡ strides_at s (d + 1) (n - (d + 1)) c.at (with_stride d z a)
+  stride-goes e = stride-step ∙ within-then (signed_at s at) is_reach at unread _ ∙ rw (sym e)
 
 -- no stride is left: nothing more is read
 pub strides-end : (s : List ℕ) (d n at : ℕ) (a : Access) → n ≤ d → strides_at s d (n - d) at a ≡ read a at
@@ -240,16 +260,16 @@ on-cond r m false x y at = refl
 -- a signed number of an access: read by itself, then put into the nest
 on-signed : (n : Number) (r : Role) (m : Nest) (at : ℕ) (k : ℤ → ℕ → Read) (next : ℤ → ℕ → ReadAccess)
     → ((z : ℤ) (to : ℕ) → k z to ≡ on_access r m (next z to))
-    → field (λ x. refused x at) n (λ v. is_reach (signed_of v)) (λ v to. k (signed_of v) to) ≡ on_access r m (signed_field (λ x. unread x at) (as_signed n) is_reach next)
-on-signed NoNumber r m at k next e = refl
-on-signed (Value v c) r m at k next e = rw (e (signed_of v) c.at) (on-cond r m (is_reach (signed_of v)) (next (signed_of v) c.at) OutOfRange at)
+    → field (λ x. refused x at) n (λ v. is_reach (signed_of v)) (λ v to. k (signed_of v) to) ≡ on_access r m (field (λ x. unread x at) (as_signed n) is_reach next)
+on-signed None r m at k next e = refl
+on-signed (Some (v, c)) r m at k next e = rw (e (signed_of v) c.at) (on-cond r m (is_reach (signed_of v)) (next (signed_of v) c.at) OutOfRange at)
 
 -- a number of an access: read by itself, then put into the nest
 on-field : (n : Number) (r : Role) (m : Nest) (at : ℕ) (allowed : ℕ → Bool) (k : ℕ → ℕ → Read) (next : ℕ → ℕ → ReadAccess)
     → ((v to : ℕ) → k v to ≡ on_access r m (next v to))
     → field (λ x. refused x at) n allowed k ≡ on_access r m (field (λ x. unread x at) n allowed next)
-on-field NoNumber r m at allowed k next e = refl
-on-field (Value v c) r m at allowed k next e = rw (e v c.at) (on-cond r m (allowed v) (next v c.at) OutOfRange at)
+on-field None r m at allowed k next e = refl
+on-field (Some (v, c)) r m at allowed k next e = rw (e v c.at) (on-cond r m (allowed v) (next v c.at) OutOfRange at)
 
 -- strides read by themselves are their numbers put into the nest
 read-strides : (s : List ℕ) (r : Role) (d n at : ℕ) (m : Nest) → read_from s (stride_fields r d n) at m ≡ on_access r m (strides_at s d n at (access_of r m))
@@ -276,35 +296,31 @@ read-access s r n at m =
 
 module _ (s : List ℕ) (n at : ℕ) (a : Access) where
   -- no base: refused with 1
-  pub access-none : number_at s at ≡ NoNumber → access_at s n at a ≡ unread BadNumber at
+  pub access-none : number_at s at ≡ None → access_at s n at a ≡ unread BadNumber at
   unfolding access_at
   access-none e = rw e
 
   -- a base out of range: refused with 2
-  pub access-over : {v : ℕ} {c : Cursor} → number_at s at ≡ Value v c → holds (between 0 1048576) v ≡ false → access_at s n at a ≡ unread OutOfRange at
+  pub access-over : {v : ℕ} {c : Cursor} → number_at s at ≡ Some (v, c) → holds (between 0 1048576) v ≡ false → access_at s n at a ≡ unread OutOfRange at
   unfolding access_at
   access-over e h = rw (e, h)
 
   -- a base in range: it is put in, and the strides are read
-  pub access-next : {v : ℕ} {c : Cursor} → number_at s at ≡ Value v c → holds (between 0 1048576) v ≡ true → access_at s n at a ≡ strides_at s 0 n c.at (with_base v a)
+  pub access-next : {v : ℕ} {c : Cursor} → number_at s at ≡ Some (v, c) → holds (between 0 1048576) v ≡ true → access_at s n at a ≡ strides_at s 0 n c.at (with_base v a)
   unfolding access_at
   access-next e h = rw (e, h)
 
--- an access that was read, or refused, as a part of the nest
-abbrev pub with_side : Role → Nest → Side → Part
-with_side r m p = record { verdict = p.verdict; nest = with_access r p.access m; cursor = p.cursor }
+  -- as the code reads it: refused
+  pub access-stays : {r : Refused} → Err r ≡ number_within s at (holds (between 0 1048576)) → side_of (Err r) ≡ access_at s n at a
+  unfolding access_at
+  access-stays e = sym (within-then (number_at s at) (holds (between 0 1048576)) at unread _ ∙ rw (sym e))
 
--- put into the nest it is what was read of the nest
-side : (r : Role) (m : Nest) (v : Verdict) (a : Access) (to : ℕ) → on_access r m (access_read v a to) ≡ read_of v (with_access r a m) to
-side r m Done a to = refl
-side r m (Refused x place) a to = refl
+  -- as the code reads it: the base is put in, and the strides are read
+  pub access-goes : {v : ℕ} {c : Cursor} → Ok (v, c) ≡ number_within s at (holds (between 0 1048576)) → access_at s n at a ≡ strides_at s 0 n c.at (with_base v a)
+  unfolding access_at
+  access-goes e = within-then (number_at s at) (holds (between 0 1048576)) at unread _ ∙ rw (sym e)
 
 -- an access read by itself, put into the nest, is its numbers read into the nest
-pub side-read : (s : List ℕ) (r : Role) (n at : ℕ) (m : Nest) (p : Side) → side_of p ≡ access_at s n at (access_of r m)
-    → part_of (with_side r m p) ≡ read_from s (access_fields r n) at m
-side-read s r n at m p e = sym (read-access s r n at m ∙ rw (sym e) (side r m p.verdict p.access p.cursor.at))
-
--- a refusal is the same beside any nest
-pub same-refusal : (v : Verdict) (m n : Nest) (at to : ℕ) → is_refused v ≡ true → read_of v m at ≡ read_of v n to
-same-refusal Done m n at to e = absurd (let z : ◌≡◌ {A = ℕ} 0 1 = cc in omega arith)
-same-refusal (Refused x place) m n at to e = refl
+pub side-read : (s : List ℕ) (r : Role) (n at : ℕ) (m : Nest) (p : Result (Access × Cursor) Refused) → side_of p ≡ access_at s n at (access_of r m)
+    → on_access r m (side_of p) ≡ read_from s (access_fields r n) at m
+side-read s r n at m p e = rw e (sym (read-access s r n at m))

@@ -6,11 +6,10 @@
 --   Parted                  both sources below a byte, the destination from there on
 --   Premises, Ready         both premises; bytes that are a nest for which they hold
 --   RunsPlain               what its runs answer and leave
-use Rattle.std.specs.Prelude.{ℕ, ◌≡◌, List, [], ◌∷◌, Bool, true, ◌&&◌, ◌||◌, length, ℤ, pos, ◌+ℤ◌, ◌≤ℤ◌}
+use Rattle.std.specs.Prelude.{ℕ, ◌≡◌, List, [], ◌∷◌, Bool, true, ◌&&◌, ◌||◌, length, ℤ, pos, ◌+ℤ◌, ◌≤ℤ◌, Ok}
 use Rattle.std.specs.Int.Signed.{le_z}
 use Rattle.codec.specs.NumberLaws.{AreBytes}
 use Rattle.engine.specs.Allowed.{Fits, Lies}
-use Rattle.engine.specs.declared.run.Verdict.TheVariants.{Done}
 use Rattle.translator.specs.Nests.{visits, width_of, place_of, plain_loop}
 use Rattle.translator.specs.Reading.{nest, nest_at, nest_bytes}
 use Rattle.translator.specs.Translation.{run_nest}
@@ -82,5 +81,5 @@ pub record Ready (s : List ℕ) (m : Nest) (len : ℕ) : Type 0 where
 pub record RunsPlain (s : List ℕ) (m : Nest) (len : ℕ) : Type 0 where
   pub accepted : Accepted m
   pub bytes : s ≡ nest_bytes m
-  pub done : (vl : ℕ) (memory : List ℕ) → length memory ≡ len → Fits vl len → (run_nest vl s memory).progress.verdict ≡ Done
+  pub done : (vl : ℕ) (memory : List ℕ) → length memory ≡ len → Fits vl len → (run_nest vl s memory).progress.verdict ≡ Ok tt
   pub plain : (vl : ℕ) (memory : List ℕ) → length memory ≡ len → Fits vl len → (run_nest vl s memory).progress.world.memory ≡ plain_loop m memory

@@ -9,12 +9,11 @@
 --   Translating                  the room
 --   Promise3, Promised           demand 3; with the acceptance, the visits and the room
 --   Premise1, Delivered          demand 3 in the words of an answer, for the bytes of a nest
-use Rattle.std.specs.Prelude.{ℕ, suc, ◌+◌, ◌/◌, ◌≤◌, ◌<◌, ◌≡◌, ◌⊎◌, ◌↔◌, List, [], ◌∷◌, length, get_or, take, drop, ℤ, pos, ◌+ℤ◌, ◌≤ℤ◌}
+use Rattle.std.specs.Prelude.{ℕ, suc, ◌+◌, ◌/◌, ◌≤◌, ◌<◌, ◌≡◌, ◌⊎◌, ◌↔◌, List, [], ◌∷◌, length, get_or, take, drop, ℤ, pos, ◌+ℤ◌, ◌≤ℤ◌, Ok}
 use Rattle.codec.specs.NumberLaws.{AreBytes}
 use Rattle.engine.specs.Sheets.{run}
 use Rattle.engine.specs.Allowed.{Fits, Lies}
 use Rattle.engine.specs.LoopLaws.{Within, Before}
-use Rattle.engine.specs.declared.run.Verdict.TheVariants.{Done}
 use Rattle.translator.specs.Nests.{count_at, visits, width_of, place_of, plain_loop, nest_stops, chunk_at, visits_among}
 use Rattle.translator.specs.Reading.{nest, nest_bytes}
 use Rattle.translator.specs.NestSheets.{sheet_of}
@@ -98,7 +97,7 @@ pub record Promise3 (m : Nest) (vl : ℕ) (memory : List ℕ) : Type 0 where
   -- the bytes of the nest are translated and run
   pub runs : run_nest vl (nest_bytes m) memory ≡ record { stage = stage.Sheet; progress = run vl (sheet_of m) memory }
   -- premise 1 alone: not refused
-  pub done : AllInside m (length memory) → (run vl (sheet_of m) memory).verdict ≡ Done
+  pub done : AllInside m (length memory) → (run vl (sheet_of m) memory).verdict ≡ Ok tt
   -- both: the plain loop's memory
   pub plain : AllInside m (length memory) → NoneRead m (visits m) → (run vl (sheet_of m) memory).world.memory ≡ plain_loop m memory
   -- under the weaker premise too
@@ -117,7 +116,7 @@ pub record Premise1 (s : List ℕ) (vl len : ℕ) (m : Nest) : Type 0 where
 -- demand 3 of the answer r for the bytes s, and of the memory after it
 pub record Delivered (s : List ℕ) (vl : ℕ) (memory : List ℕ) (r : NestAnswer) (after : List ℕ) : Type 0 where
   -- premise 1 alone: the sheet was run, and not refused
-  pub done : (m : Nest) → Premise1 s vl (length memory) m → (r.stage ≡ stage.Sheet) × (r.answer.verdict ≡ Done)
+  pub done : (m : Nest) → Premise1 s vl (length memory) m → (r.stage ≡ stage.Sheet) × (r.answer.verdict ≡ Ok tt)
   -- both: the plain loop's memory
   pub plain : (m : Nest) → Premise1 s vl (length memory) m → NoneRead m (visits m) → after ≡ plain_loop m memory
   -- under the weaker premise too

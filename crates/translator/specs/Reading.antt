@@ -2,18 +2,15 @@
 --
 --   Read, read_from         number by number
 --   Nested, nest_at         a nest, or its refusal: 1 and 2, then 6, 8, 9
---   nested_of               what the code keeps of it
+--   nested_of               what the code says of it
 --   numbers_bytes, nest_bytes   a nest's bytes
-use Rattle.std.specs.Prelude.{ℕ, List, [], ◌∷◌, ◌++◌, cond, length, ltb}
+use Rattle.std.specs.Prelude.{ℕ, List, [], ◌∷◌, ◌++◌, cond, length, ltb, Result, Ok, Err}
 use Rattle.codec.specs.Numbers.{number_at, number_bytes}
 use Rattle.codec.specs.Operations.{field}
 use Rattle.codec.specs.declared.refusal.Refusal.{Refusal}
 use Rattle.codec.specs.declared.refusal.Refusal.TheVariants.{OutOfRange}
-use Rattle.engine.specs.Checks.{first_of}
-use Rattle.engine.specs.declared.check.Why.{Why}
-use Rattle.engine.specs.declared.check.Why.TheVariants.{Nothing, Because}
-use Rattle.engine.specs.declared.run.Verdict.{Verdict}
-use Rattle.engine.specs.declared.run.Verdict.TheVariants.{Done, Refused}
+use Rattle.codec.specs.declared.refusal.Refused.{Refused}
+use Rattle.engine.specs.Checks.{first_of, Why}
 use Rattle.translator.specs.Fields.{Field, head_fields, rest_fields, fields_of, range_of, holds, no_nest, put, number_in}
 use Rattle.translator.specs.NestRules.{checks_of}
 use Rattle.translator.specs.declared.nest.Nest.{Nest}
@@ -43,8 +40,8 @@ pub data Nested : Type 0 where
 
 -- "then 6, 8, 9, the place being .. else 0"
 abbrev pub unless : Why → Nest → Nested
-unless Nothing m = nest m
-unless (Because x) m = refused x 0
+unless (Ok u) m = nest m
+unless (Err x) m = refused x 0
 
 -- "bytes after .. a nest", "the first byte too many", then the rules
 abbrev pub whole_at : List ℕ → Nest → ℕ → Nested
@@ -57,10 +54,10 @@ nest_at s =
     on_read refused (read_from s (rest_fields m.loops) at m) λ m at.
     whole_at s m at
 
--- a nest, or its refusal, from a verdict with a nest beside it, as the code keeps them
-abbrev pub nested_of : Verdict → Nest → Nested
-nested_of Done m = nest m
-nested_of (Refused x at) m = refused x at
+-- what the code says of a nest that it read: the nest, or a refusal
+abbrev pub nested_of : Result Nest Refused → Nested
+nested_of (Ok m) = nest m
+nested_of (Err r) = refused r.refusal r.place
 
 -- ---- writing
 

@@ -5,7 +5,7 @@
 --   shape-ranged                 the shape of a nest in range that has at most eight nonzero terms
 --   rules-first                  the rules of a nest, in order
 --   checks-shape                 the rules of a nest in range are the checks of its shape
-use Rattle.std.specs.Prelude.{ℕ, zero, suc, ◌+◌, ◌-◌, ◌≤◌, ◌<◌, ◌≡◌, refl, List, ◌∷◌, map, Bool, true, false, cond, not, ◌||◌, length, get_or, replicate, ltb}
+use Rattle.std.specs.Prelude.{ℕ, zero, suc, ◌+◌, ◌-◌, ◌≤◌, ◌<◌, ◌≡◌, refl, List, ◌∷◌, map, Bool, true, false, cond, not, ◌||◌, length, get_or, replicate, ltb, Ok, Err}
 use Rattle.std.proofs.Common.{sym, ◌∙◌, ap, arith, length-append, ltb-true, ltb-false}
 use Rattle.std.proofs.Math.Decide.{dec_lt}
 use Rattle.std.proofs.lemmas.List.{length-replicate, length-map}
@@ -26,7 +26,6 @@ use Rattle.engine.specs.BoundLaws.{highs-none, highs-more, rule-none, rule-more}
 use Rattle.engine.specs.Good.{RangedModifier, Ranged}
 use Rattle.engine.specs.ShapeCheck.{check_shape}
 use Rattle.engine.specs.ShapeLaws.{many-refused, ranged-fits}
-use Rattle.engine.specs.declared.check.Why.TheVariants.{Nothing, Because}
 use Rattle.translator.specs.NestRules.{nonzero_of, high_with, less_with, highs_from, highs_of, low_or_high_from, low_or_high, checks_of}
 use Rattle.translator.specs.NestSheets.{modifiers_of, shape_of}
 use Rattle.translator.specs.ModifierLaws.{total-gain, modifiers-count, modifiers-kept, modifiers-each}
@@ -119,7 +118,7 @@ shape-ranged m r d h =
 -- the rules of a nest, in order
 pub rules-first : (m : Nest)
     → first_of (checks_of m)
-    ≡ cond (ltb 8 (nonzero_of m)) (Because TooMany) (cond (low_or_high m) (Because LowHigh) (cond (ltb 1048576 (product (highs_of m))) (Because Product) Nothing))
+    ≡ cond (ltb 8 (nonzero_of m)) (Err TooMany) (cond (low_or_high m) (Err LowHigh) (cond (ltb 1048576 (product (highs_of m))) (Err Product) (Ok tt)))
 rules-first m =
     rw (first-of TooMany (ltb 8 (nonzero_of m)), first-of LowHigh (low_or_high m), first-of Product (ltb 1048576 (product (highs_of m))), nothing)
 
@@ -128,10 +127,10 @@ pub checks-shape : (m : Nest) → InRange m → Tidy m → first_of (checks_of m
 checks-shape m r d = rules-first m ∙ go (ltb 8 (nonzero_of m)) refl
   where
     go : (b : Bool) → ltb 8 (nonzero_of m) ≡ b
-        → cond b (Because TooMany) (cond (low_or_high m) (Because LowHigh) (cond (ltb 1048576 (product (highs_of m))) (Because Product) Nothing))
+        → cond b (Err TooMany) (cond (low_or_high m) (Err LowHigh) (cond (ltb 1048576 (product (highs_of m))) (Err Product) (Ok tt)))
         ≡ check_shape (shape_of m)
     go true e = sym (many-refused (shape_of m) (omega (arith, modifiers-count m, ltb-true 8 (nonzero_of m) e)))
     go false e =
         sym (ranged-fits (shape_of m) (shape-ranged m r d (ltb-false 8 (nonzero_of m) e)) r.loops-least
-        ∙ (λ i. cond (low-high-same m 0 m.loops (omega arith) i) (Because LowHigh)
-        (cond (ltb 1048576 (product (highs-same m 0 m.loops (omega arith) i))) (Because Product) Nothing)))
+        ∙ (λ i. cond (low-high-same m 0 m.loops (omega arith) i) (Err LowHigh)
+        (cond (ltb 1048576 (product (highs-same m 0 m.loops (omega arith) i))) (Err Product) (Ok tt))))

@@ -3,23 +3,20 @@
 --   translated, room_after                translating: the answer, and the room after it
 --   Outcome, run_nest, outcome_of          translating and running
 --   Answered, as_translated, as_outcome    answers by 01's numbers
-use Rattle.std.specs.Prelude.{ℕ, List, cond, length, leb}
+use Rattle.std.specs.Prelude.{ℕ, List, cond, length, leb, Result, Ok, Err}
 use Rattle.std.proofs.lemmas.List.Edits.{sets}
-use Rattle.codec.specs.Refusals.{number_of}
+use Rattle.codec.specs.Refusals.{number_of, err_at}
 use Rattle.codec.specs.declared.refusal.Refusal.{Refusal}
 use Rattle.codec.specs.declared.refusal.Refusal.TheVariants as reason
+use Rattle.codec.specs.declared.refusal.Refused.{Refused}
 use Rattle.engine.specs.Registers.{fresh_machine}
-use Rattle.engine.specs.Run.{Progress}
+use Rattle.engine.specs.Run.{Progress, Verdict, refusal_at}
 use Rattle.engine.specs.Sheets.{allowed, refused_at, run}
 use Rattle.engine.specs.Bodies.{progress_of}
-use Rattle.engine.specs.declared.run.Verdict.{Verdict}
-use Rattle.engine.specs.declared.run.Verdict.TheVariants.{Done, Refused}
 use Rattle.engine.specs.declared.run.Report.{Report}
 use Rattle.engine.specs.declared.run.Answer.{Answer}
 use Rattle.translator.specs.Reading.{Nested, nest, refused, nest_at}
 use Rattle.translator.specs.NestSheets.{sheet_of}
-use Rattle.translator.specs.declared.nest.Translated.{Translated}
-use Rattle.translator.specs.declared.nest.Translated.TheVariants as answer
 use Rattle.translator.specs.declared.nest.Stage.{Stage}
 use Rattle.translator.specs.declared.nest.Stage.TheVariants as stage
 use Rattle.translator.specs.declared.nest.NestAnswer.{NestAnswer}
@@ -27,9 +24,9 @@ use Rattle.translator.specs.declared.nest.NestAnswer.{NestAnswer}
 -- ---- translating
 
 -- "then 17, place 0, exactly if the room is shorter than the sheet": the answer for a room of `size` bytes
-abbrev pub translated : Nested → ℕ → Translated
-translated (refused x at) size = answer.Refused x at
-translated (nest m) size = cond (leb (length (sheet_of m)) size) (answer.Sheet (length (sheet_of m))) (answer.Refused reason.NoRoom 0)
+abbrev pub translated : Nested → ℕ → Result ℕ Refused
+translated (refused x at) size = err_at at x
+translated (nest m) size = cond (leb (length (sheet_of m)) size) (Ok (length (sheet_of m))) (err_at 0 reason.NoRoom)
 
 -- "On refusal the room is untouched; on success only the sheet's bytes change"
 abbrev pub room_after : Nested → List ℕ → List ℕ
@@ -49,7 +46,7 @@ unrun g memory x at = record { stage = g; progress = refused_at (record { machin
 
 -- the code's answer of a refusal before any register was used
 abbrev pub refused_answer : Refusal → ℕ → Answer
-refused_answer x at = record { verdict = Refused x at; report = record { passes = 0; calculations = 0 }; machine = fresh_machine }
+refused_answer x at = record { verdict = refusal_at x at; report = record { passes = 0; calculations = 0 }; machine = fresh_machine }
 
 -- a nest's refusal, or the run of its sheet
 abbrev pub run_nested : ℕ → Nested → List ℕ → Outcome
@@ -74,14 +71,14 @@ pub data Answered : Type 0 where
   refusal : ℕ → ℕ → ℕ → ℕ → Answered
 
 -- the answer of translating, by 01's numbers
-abbrev pub as_translated : Translated → Answered
-as_translated (answer.Sheet n) = sheet n
-as_translated (answer.Refused x at) = refusal (number_of x) at 0 0
+abbrev pub as_translated : Result ℕ Refused → Answered
+as_translated (Ok n) = sheet n
+as_translated (Err r) = refusal (number_of r.refusal) r.place 0 0
 
 -- a verdict and both counts, by 01's numbers
 abbrev pub as_verdict : Verdict → Report → Answered
-as_verdict Done r = done r.passes r.calculations
-as_verdict (Refused x at) r = refusal (number_of x) at r.passes r.calculations
+as_verdict (Ok _) r = done r.passes r.calculations
+as_verdict (Err x) r = refusal (number_of x.refusal) x.place r.passes r.calculations
 
 -- the answer of translating and running, by 01's numbers
 abbrev pub as_outcome : Outcome → Answered

@@ -1,7 +1,6 @@
 // The translator: loop nests, read, checked and written as sheets.
 #![tactic(auto)]
 
-mod change;
 pub mod nest;
 mod read;
 mod rules;

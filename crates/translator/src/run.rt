@@ -11,34 +11,31 @@ ghost use Rattle.translator.specs.Translation.{run_nest, outcome_of, refused_ans
 use crate::nest::{Nest, NestAnswer, Stage};
 use crate::read::read_nest;
 use crate::write::sheet_page;
-use codec::refusal::Refusal;
+use codec::refusal::{Refusal, Refused};
 use engine::register::fresh_machine;
-use engine::run::{Answer, Report, Verdict, is_allowed, run};
+use engine::run::{Answer, Report, is_allowed, run};
 
 // A refusal before any register was used.
-fn unrun(refusal: Refusal, place: usize) -> Answer
-    ensures { result ≡ refused_answer refusal place }
+fn unrun(refused: Refused) -> Answer
+    ensures { result ≡ refused_answer refused.refusal refused.place }
 {
-    let report = Report {
-        passes: 0,
-        calculations: 0,
-    };
     Answer {
-        verdict: Verdict::Refused(refusal, place),
-        report,
+        verdict: Err(refused),
+        report: Report {
+            passes: 0,
+            calculations: 0,
+        },
         machine: fresh_machine(),
     }
 }
 
 // The run of the sheet of an accepted nest.
-fn run_sheet(m: Nest, vl: u64, memory: &mut [u8]) -> Answer
-    requires { Accepted m }
-    ensures { progress_of result memory.new ≡ Sheets.run vl (sheet_of m) memory.old }
+fn run_sheet(m: &Nest, vl: u64, memory: &mut [u8]) -> Answer
+    requires { Accepted m.now }
+    ensures { progress_of result memory.new ≡ Sheets.run vl (sheet_of m.now) memory.old }
 {
     let page = sheet_page(m);
-    let bytes = page.bytes;
-    let len = page.at;
-    run(&bytes[..len], vl, memory)
+    run(&page.bytes[..page.at], vl, memory)
 }
 
 // The answer of the nest that bytes are, translated and run at a vector length, on a lent memory: 15 first, then the nest's refusals,
@@ -49,22 +46,23 @@ pub fn run_nest(s: &[u8], vl: u64, memory: &mut [u8]) -> NestAnswer
     ensures delivered { Delivered s.now vl memory.old result memory.new }
 {
     if !is_allowed(vl, memory.len()) {
+        let lengths = Refused {
+            refusal: Refusal::Lengths,
+            place: 0,
+        };
         return NestAnswer {
             stage: Stage::Lengths,
-            answer: unrun(Refusal::Lengths, 0),
+            answer: unrun(lengths),
         };
     }
-    let read = read_nest(s);
-    let verdict = read.verdict;
-    let nest = read.nest;
-    match verdict {
-        Verdict::Done => NestAnswer {
+    match read_nest(s) {
+        Ok(nest) => NestAnswer {
             stage: Stage::Sheet,
-            answer: run_sheet(nest, vl, memory),
+            answer: run_sheet(&nest, vl, memory),
         },
-        Verdict::Refused(refusal, at) => NestAnswer {
+        Err(refused) => NestAnswer {
             stage: Stage::Nest,
-            answer: unrun(refusal, at),
+            answer: unrun(refused),
         },
     }
 }

@@ -1,32 +1,28 @@
 -- One flag, one number, one register more.
-use Prim.Native.Nat.{ℕ, suc, ◌+◌, ◌-◌, ◌*◌, ◌^◌, ◌≤◌, ◌<◌}
-use mathlib.Core.Path.{◌≡◌, refl}
-use mathlib.Core.List.{List, ◌++◌, append_assoc}
-use native.Mathlib.Omega.{arith}
-use native.Mathlib.Numerals.{add-one}
-use lib.ListN.{length, get_or, drop, drop_of_length-le}
-use lib.Seq.{sets, drop-cons}
-use lib.Pow.{pow-add}
+use Rattle.std.proofs.Common.{◌≡◌, ℕ, zero, suc, ◌+◌, ◌-◌, ◌*◌, ◌/◌, ◌%◌, ◌^◌, ◌<◌, ◌≤◌, List, ◌++◌, length, get_or, drop, refl, sym, ap, ◌∙◌, append_assoc, Ok, Err, add-one, arith, drop-cons, drop-drop, pow-add, w64}
+use Rattle.std.proofs.Math.Nat.{pow-suc, div-div-eq-div-mul}
+use Rattle.std.proofs.lemmas.List.Edits.{sets, sets-eq}
+use lib.ListN.{drop_of_length-le}
+use borrow.Rule.Slice.PartMut.{put_mid}
+use Rattle.std.specs.Int.{byte_at, bytes_low_first, to_le_bytes}
 use Rattle.engine.specs.Memory.{little_endian, joined}
 use Rattle.engine.specs.ByteLaws.{length-little}
 use Rattle.engine.specs.Registers.{reg}
-use Rattle.engine.specs.Run.{Progress}
+use Rattle.engine.specs.Run.{Verdict, number_given, Progress}
 use Rattle.engine.specs.declared.register.Machine.{Machine}
 use Rattle.engine.proofs.ByteSteps.{sets-append}
-use Rattle.uve.specs.Reports.{bytes_of64, head_numbers, flag_digit, flags_from, register_numbers, registers_from, mask_numbers, report_of}
+use Rattle.uve.specs.Reports.{bytes_of64, head_numbers, flag_digit, flags_from, lane_numbers, register_numbers, registers_from, mask_numbers, report_of, refused_number}
 use Rattle.uve.specs.JoinedLaws.{joined-append, length-joined}
 use Rattle.uve.specs.ReportLaws.{register-length}
 
 -- ---- flags
 
 -- one dimension below those that were looked at
-pub flag-next : (dims height d : ℕ) → 0 < d → d ≤ 7
-    → flags_from dims height (suc (d - 1)) (7 - (d - 1)) ≡ flag_digit dims height d + 2 * flags_from dims height (suc d) (7 - d)
+pub flag-next : (dims height d : ℕ) → d < 8 → flags_from dims height d (8 - d) ≡ flag_digit dims height d + 2 * flags_from dims height (d + 1) (8 - (d + 1))
 unfolding flags_from
-flag-next dims height d p h =
-    let e : suc (d - 1) ≡ d = omega arith in
-    let f : 7 - (d - 1) ≡ suc (7 - d) = omega arith in
-    rw (e, f)
+flag-next dims height d h =
+    let e : 8 - d ≡ suc (8 - (d + 1)) = omega arith in
+    rw (e, add-one)
 
 pub flag-none : (dims height d : ℕ) → flags_from dims height d 0 ≡ 0
 unfolding flags_from
@@ -38,6 +34,30 @@ doubled b x n m p h e =
     let f : m ≡ n + 1 = omega arith in
     let g : 2 ^ (n + 1) ≡ 2 ^ n * 2 = pow-add 2 n 1 in
     rw (f, g) (omega arith)
+
+-- ---- bytes
+
+byte_at-is : (i n : ℕ) → byte_at i n ≡ n / 256 ^ i % 256
+byte_at-is zero n = omega arith
+byte_at-is (suc i) n = refl
+
+bytes_from : (i k n : ℕ) → bytes_low_first i k n ≡ little_endian k (n / 256 ^ i)
+unfolding little_endian
+bytes_from i zero n = refl
+bytes_from i (suc k) n =
+    let e : n / 256 ^ suc i ≡ n / 256 ^ i / 256 = rw (pow-suc 256 i) (sym (div-div-eq-div-mul n (256 ^ i) 256)) in
+    rw (byte_at-is i n, bytes_from (suc i) k n, e)
+
+-- the bytes of a number
+pub bytes-little : (n : ℕ) → to_le_bytes w64 n ≡ little_endian 8 n
+bytes-little n =
+    let e : n / 1 ≡ n = omega arith in
+    bytes_from 0 8 n ∙ ap (little_endian 8) e
+
+-- bytes that are copied into a part
+pub copied : (l : List ℕ) (i k : ℕ) (ys zs : List ℕ) → ys ≡ zs → length zs ≡ k → i + k ≤ length l → put_mid i k l ys ≡ sets l i zs
+copied l i k ys zs e n h =
+    rw (e, ← n, drop-drop, ← append_assoc) (sym (sets-eq zs l i (omega arith)))
 
 -- ---- numbers
 
@@ -53,7 +73,21 @@ pub all-put : (l : List ℕ) (at i : ℕ) (ns : List ℕ) → length ns ≤ i �
 unfolding joined
 all-put l at i ns h = rw (drop_of_length-le ns {i = i} h)
 
+-- ---- a register
+
+-- six numbers are put, and the lane numbers behind them
+pub lanes-put : (l : List ℕ) (at : ℕ) (six lanes ns : List ℕ) → length six ≡ 6 → ns ≡ six ++ lane_numbers lanes
+    → sets (sets l at (bytes_of64 six)) (at + 48) (bytes_of64 (lane_numbers lanes)) ≡ sets l at (bytes_of64 ns)
+lanes-put l at six lanes ns n e =
+    let f : at + 48 ≡ at + length (bytes_of64 six) = omega (arith, n, length-joined 8 six) in
+    rw (e, f, joined-append 8 six, sets-append)
+
 -- ---- a report
+
+-- the number of a run's refusal
+pub given-refused : (v : Verdict) → refused_number v ≡ number_given v
+given-refused (Ok _) = refl
+given-refused (Err x) = refl
 
 -- the first eight numbers are put
 pub head-put : (l : List ℕ) (p : Progress)

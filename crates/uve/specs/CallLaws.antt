@@ -4,7 +4,7 @@
 --   run-number, run-behind           a number of the report, read back; the bytes behind them
 --   TranslateCalled, translate-short, translate-long   the answer, the room and the report after a translation, alike
 --   translation-length, translate-behind   three numbers; the bytes behind them
-use Rattle.std.specs.Prelude.{ℕ, ◌+◌, ◌*◌, ◌%◌, ◌^◌, ◌≤◌, ◌<◌, ◌≡◌, refl, List, ◌++◌, Bool, true, false, cond, length, get_or, drop, ltb}
+use Rattle.std.specs.Prelude.{ℕ, ◌+◌, ◌*◌, ◌%◌, ◌^◌, ◌≤◌, ◌<◌, ◌≡◌, refl, List, ◌++◌, Bool, true, false, cond, length, get_or, drop, ltb, Result, Ok, Err}
 use Rattle.std.proofs.Common.{arith}
 use Rattle.std.proofs.lemmas.List.Edits.{sets, sets-eq}
 use borrow.Author.Tests.{lt-ltb, le-ltb}
@@ -13,8 +13,7 @@ use Rattle.engine.specs.Run.{number_given, Progress}
 use Rattle.engine.specs.Sheets.{run}
 use Rattle.translator.specs.Reading.{nest_at}
 use Rattle.translator.specs.Translation.{translated, room_after}
-use Rattle.translator.specs.declared.nest.Translated.{Translated}
-use Rattle.translator.specs.declared.nest.Translated.TheVariants as answer
+use Rattle.codec.specs.declared.refusal.Refused.{Refused}
 use Rattle.uve.specs.Reports.{bytes_of64, report_of, refused_number, translation_numbers}
 use Rattle.uve.specs.Calls.{unanswered, run_answer, run_memory, run_report, translate_answer, translate_room, translate_report}
 use Rattle.uve.specs.JoinedLaws.{length-joined, joined-read, sets-beyond}
@@ -57,10 +56,10 @@ module _ (vl : ℕ) (s m b : List ℕ) where
   run-behind k h = numbers-behind b (report_of (run vl s m)) k (ltb (length b) 3712) (omega (arith, report-length (run vl s m)))
 
 -- three numbers
-pub translation-length : (t : Translated) → length (translation_numbers t) ≡ 3
+pub translation-length : (t : Result ℕ Refused) → length (translation_numbers t) ≡ 3
 unfolding translation_numbers
-translation-length (answer.Sheet n) = refl
-translation-length (answer.Refused x place) = refl
+translation-length (Ok n) = refl
+translation-length (Err r) = refl
 
 -- ---- a translation: nest, room and report at the call
 
@@ -75,7 +74,7 @@ module _ (n m b : List ℕ) where
   translate-short h = let e = lt-ltb (length b) 24 h in (rw e, (rw e, rw e))
 
   -- one long enough: what the translator answered
-  pub translate-long : 24 ≤ length b → (t : Translated) (m' : List ℕ) → t ≡ translated (nest_at n) (length m) → m' ≡ room_after (nest_at n) m
+  pub translate-long : 24 ≤ length b → (t : Result ℕ Refused) (m' : List ℕ) → t ≡ translated (nest_at n) (length m) → m' ≡ room_after (nest_at n) m
       → TranslateCalled n m b (refused_number t) m' (sets b 0 (bytes_of64 (translation_numbers t)))
   unfolding translate_answer translate_room translate_report
   translate-long h t m' q k = let e = le-ltb (length b) 24 h in (rw (e, q), (rw (e, k), rw (e, q)))

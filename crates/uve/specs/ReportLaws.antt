@@ -6,25 +6,24 @@
 --   refused-15              "With 15 all registers are fresh"
 --   forgotten, report-before   but for lane and operand a report is what it was
 --   told_digit, flags-asked  each flag is what the engine's question for it is told
-use Rattle.std.specs.Prelude.{ℕ, zero, suc, ◌+◌, ◌-◌, ◌*◌, ◌/◌, ◌%◌, ◌^◌, ◌≤◌, ◌<◌, ◌≡◌, refl, List, [], ◌∷◌, ◌++◌, Bool, true, false, cond, not, ◌&&◌, ◌||◌, length, replicate, take, drop, leb, ltb}
+use Rattle.std.specs.Prelude.{ℕ, zero, suc, ◌+◌, ◌-◌, ◌*◌, ◌/◌, ◌%◌, ◌^◌, ◌≤◌, ◌<◌, ◌≡◌, refl, List, [], ◌∷◌, ◌++◌, Bool, true, false, cond, not, ◌&&◌, ◌||◌, length, replicate, take, drop, leb, ltb, Ok, Err, Result}
 use Rattle.std.proofs.Common.{◌∙◌, ap, arith, length-append, take_all, le-leb, le-ltb, lt-ltb, ne_eqb}
 use Rattle.std.proofs.Math.Nat.{pow-succ', zero-div, div-div-eq-div-mul}
 use Rattle.std.proofs.Math.Decide.{dec_le}
 use Rattle.std.proofs.lemmas.Bool.{lt-leb}
 use Rattle.codec.specs.declared.operation.Calculation.{Calculation}
+use Rattle.codec.specs.declared.refusal.Refusal.{Refusal}
 use Rattle.codec.specs.declared.refusal.Refusal.TheVariants.{OutOfRange, WrongState}
 use Rattle.engine.specs.Memory.{value_at, lanes_from}
 use Rattle.engine.specs.ByteLaws.{Bytewise}
 use Rattle.engine.specs.Chunks.{flag}
 use Rattle.engine.specs.Checks.{◌if◌, first_of}
-use Rattle.engine.specs.Questions.{yes_or_no, unless, ask_flag}
+use Rattle.engine.specs.Questions.{unless, ask_flag}
 use Rattle.engine.specs.Registers.{is_open, is_finished, fresh, fresh_machine, shape_of, reg}
 use Rattle.engine.specs.Calculate.{World}
 use Rattle.engine.specs.Run.{Progress, Reason}
 use Rattle.engine.specs.Sheets.{allowed, run_by, run}
 use Rattle.engine.specs.Before.{number_before, number_of_why, Plainly, plainly, as_before}
-use Rattle.engine.specs.declared.check.Told.{Told}
-use Rattle.engine.specs.declared.check.Told.TheVariants.{Yes, No, Untold}
 use Rattle.engine.specs.declared.register.State.{State}
 use Rattle.engine.specs.declared.register.State.TheVariants.{Plain, Configuring, Open, Finished}
 use Rattle.engine.specs.declared.register.Register.{Register}
@@ -96,10 +95,10 @@ report-before why e vl s memory = report-plainly _ _ (as_before why e fresh_mach
 -- ---- flags
 
 -- what the question for a flag is told, as a binary digit: 1 for yes
-abbrev pub told_digit : Told → ℕ
-told_digit Yes = 1
-told_digit No = 0
-told_digit (Untold x) = 0
+abbrev pub told_digit : Result Bool Refusal → ℕ
+told_digit (Ok true) = 1
+told_digit (Ok false) = 0
+told_digit (Err x) = 0
 
 -- a digit is 0 or 1
 digit-small : (dims height d : ℕ) → flag_digit dims height d ≤ 1
@@ -122,7 +121,7 @@ digit_at dims height d (suc n) (suc k) h =
     rw (pow-succ' 2 k, ← div-div-eq-div-mul, e, f) (digit_at dims height (suc d) n k (omega arith))
 
 -- a digit of a flag that is told
-told-digit : (b : Bool) → cond b 1 0 ≡ told_digit (yes_or_no b)
+told-digit : (b : Bool) → cond b 1 0 ≡ told_digit (Ok b)
 told-digit true = refl
 told-digit false = refl
 

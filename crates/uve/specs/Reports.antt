@@ -10,23 +10,20 @@
 --   registers_from, mask_numbers       those of the registers, one after the other; the last eight
 --   report_of                         a run's report: 464 numbers
 --   translation_numbers, refused_number   a translation's report: three numbers; its answer
-use Rattle.std.specs.Prelude.{ℕ, zero, suc, ◌+◌, ◌*◌, List, [], ◌∷◌, ◌++◌, cond, ◌&&◌, replicate, leb}
+use Rattle.std.specs.Prelude.{ℕ, zero, suc, ◌+◌, ◌*◌, List, [], ◌∷◌, ◌++◌, cond, ◌&&◌, replicate, leb, Result, Ok, Err}
 use Rattle.codec.specs.Refusals.{number_of, lane_of, operand_of}
+use Rattle.codec.specs.declared.refusal.Refused.{Refused}
 use Rattle.codec.specs.declared.header.Kind.{Kind}
 use Rattle.codec.specs.declared.header.Kind.TheVariants.{Load, Store}
 use Rattle.engine.specs.Chunks.{flag}
 use Rattle.engine.specs.Memory.{lanes_from, joined}
 use Rattle.engine.specs.Registers.{reg}
-use Rattle.engine.specs.Run.{number_given, place_given, Progress}
+use Rattle.engine.specs.Run.{number_given, place_given, Progress, Verdict}
 use Rattle.engine.specs.declared.register.State.{State}
 use Rattle.engine.specs.declared.register.State.TheVariants.{Plain, Configuring, Open, Finished}
 use Rattle.engine.specs.declared.register.Register.{Register}
 use Rattle.engine.specs.declared.register.Machine.{Machine}
 use Rattle.engine.specs.declared.run.Report.{Report}
-use Rattle.engine.specs.declared.run.Verdict.{Verdict}
-use Rattle.engine.specs.declared.run.Verdict.TheVariants.{Done, Refused}
-use Rattle.translator.specs.declared.nest.Translated.{Translated}
-use Rattle.translator.specs.declared.nest.Translated.TheVariants as answer
 
 -- "`report` receives little-endian 64-bit numbers"
 abbrev pub bytes_of64 : List ℕ → List ℕ
@@ -36,13 +33,13 @@ bytes_of64 = joined 8
 
 -- the lane of a refusal 14, or 0
 abbrev pub lane_given : Verdict → ℕ
-lane_given Done = 0
-lane_given (Refused x place) = lane_of x
+lane_given (Ok _) = 0
+lane_given (Err x) = lane_of x.refusal
 
 -- the operand of a refusal 14, or 0
 abbrev pub operand_given : Verdict → ℕ
-operand_given Done = 0
-operand_given (Refused x place) = operand_of x
+operand_given (Ok _) = 0
+operand_given (Err x) = operand_of x.refusal
 
 -- "number, place, passes, calculations", "done: number 0, place 0", "lane and operand of a refusal 14" (02, 1/14); "headers with a cache level,
 -- iterations walked" stay 0 until a request gives them
@@ -121,11 +118,11 @@ unfoldable pub report_of : Progress → List ℕ
 report_of p = head_numbers p.verdict p.report ++ (registers_from p.world.machine 0 32 ++ mask_numbers)
 
 -- a translation's report: "number, place, length of the sheet (0 if refused)"
-unfoldable pub translation_numbers : Translated → List ℕ
-translation_numbers (answer.Sheet n) = 0 ∷ 0 ∷ n ∷ []
-translation_numbers (answer.Refused x place) = number_of x ∷ place ∷ 0 ∷ []
+unfoldable pub translation_numbers : Result ℕ Refused → List ℕ
+translation_numbers (Ok n) = 0 ∷ 0 ∷ n ∷ []
+translation_numbers (Err r) = number_of r.refusal ∷ r.place ∷ 0 ∷ []
 
 -- "the refusal's number, or 0": a translation's answer
-abbrev pub refused_number : Translated → ℕ
-refused_number (answer.Sheet n) = 0
-refused_number (answer.Refused x place) = number_of x
+abbrev pub refused_number : {A : Type 0} → Result A Refused → ℕ
+refused_number (Ok _) = 0
+refused_number (Err r) = number_of r.refusal

@@ -8,12 +8,12 @@ ghost use Rattle.std.specs.Prelude.{◌≡◌};
 ghost use Rattle.uve.specs.Calls.{run_answer, run_memory, run_report, translate_answer, translate_room, translate_report};
 
 use engine::run::run;
-use numbers::{head_numbers, number_given, refused_number, register_numbers, translation_numbers};
-use put::put_all;
+use numbers::{head_numbers, refused_number, translation_numbers};
+use put::{put_all, put_register};
 use translator::translate::translate;
 
 // The answer where a report is too short: 2^64 - 1. No refusal has this number.
-const SHORT_REPORT: u64 = 18446744073709551615;
+const SHORT_REPORT: u64 = u64::MAX;
 
 // Runs a sheet at a vector length on a lent memory, and writes 464 numbers into the report. Answers the refusal's number, or 0. A report
 // under 3,712 bytes: nothing is run or written, and the answer is 2^64 - 1.
@@ -32,16 +32,12 @@ pub extern "C" fn uve_run(sheet: &[u8], vl: u64, memory: &mut [u8], report: &mut
     let machine = answer.machine;
     let head = head_numbers(verdict, counts);
     put_all(report, 0, &head);
-    let mut i = 0;
-    while i < 32 {
-        let register = machine.registers[i];
-        let numbers = register_numbers(register);
-        put_all(report, 64 + 112 * i, &numbers);
-        i += 1;
+    for (i, register) in machine.registers.iter().enumerate() {
+        put_register(report, 64 + 112 * i, register);
     }
     let masks = [0u64; 8];
     put_all(report, 3648, &masks);
-    number_given(verdict)
+    refused_number(&verdict)
 }
 
 // Translates a nest into a room, and writes three numbers into the report. Answers the refusal's number, or 0. A report under 24 bytes:
@@ -58,5 +54,5 @@ pub extern "C" fn uve_translate(nest: &[u8], room: &mut [u8], report: &mut [u8])
     let translated = translate(nest, room);
     let numbers = translation_numbers(translated);
     put_all(report, 0, &numbers);
-    refused_number(translated)
+    refused_number(&translated)
 }

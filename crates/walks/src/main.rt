@@ -6,193 +6,113 @@
 ghost use Rattle.std.specs.Prelude.{◌≤◌};
 
 use engine::run::{run, set_up};
-use engine::stream::{Modifier, Shape};
+use engine::stream::Shape;
 use words::file::take_all;
-use words::text::{decimal, say};
+
+// A sheet that opens a stream in register 1 and walks it to its end.
+#[derive(Clone, Copy)]
+struct Stream<'a> {
+    name: &'a str,
+    sheet: &'a [u8],
+}
 
 // The elements that register 1's stream has moved when a sheet is done.
 fn moved(sheet: &[u8], vl: u64) -> u64 {
     let mut memory = [1u8; 4096];
-    let answer = run(sheet, vl, &mut memory);
-    let machine = answer.machine;
-    let r = machine.registers[1];
-    r.moved
+    let machine = run(sheet, vl, &mut memory).machine;
+    machine.registers[1].moved
 }
 
-// What a modifier adds to the size of dimension `d`: its owner's index. Every modifier of the streams here does that.
-fn adds(m: Modifier, index: [u64; 7], d: usize) -> u64 {
-    let owner = m.owner;
-    if m.target != d {
-        return 0;
-    }
-    if 6 < owner {
-        return 0;
-    }
-    index[owner]
-}
-
-// The size of dimension `d` with what the modifiers add to it.
-fn size_here(s: Shape, index: [u64; 7], d: usize) -> u64
+// The size of dimension `d` with what the modifiers add to it: each its owner's index, as every modifier of the streams here does.
+fn size_here(s: &Shape, index: &[u64; 7], d: usize) -> u64
     requires { d ≤ 6 }
 {
-    let sizes = s.sizes;
-    let modifiers = s.modifiers;
-    let mut size = sizes[d];
-    let mut k = 0;
-    while k < 8 {
-        if k < s.mods {
-            let m = modifiers[k];
-            size = std::num::wrapping_add_u64(size, adds(m, index, d));
+    let mut size = s.sizes[d];
+    for m in s.modifiers.iter().take(s.mods) {
+        if m.target == d && m.owner < index.len() {
+            size = size.wrapping_add(index[m.owner]);
         }
-        k += 1;
     }
     size
 }
 
-// The iterations that plain loops begin, one count for each index that a dimension runs; up to 16,777,216 steps.
-fn iterations(s: Shape) -> u64 {
-    let n = s.dims;
-    if n < 1 {
+// The iterations that the innermost loops begin, one within the other, at the indices of those outside them: one count for each index
+// that a loop runs.
+fn iterations(s: &Shape, loops: usize, mut index: [u64; 7]) -> u64
+    requires { loops ≤ 7 }
+{
+    if loops == 0 {
         return 0;
     }
-    if 7 < n {
-        return 0;
-    }
-    let mut index = [0u64; 7];
-    let mut d = n - 1;
+    let d = loops - 1;
     let mut count: u64 = 0;
-    let mut left: u64 = 16777216;
-    while 0 < left {
-        left -= 1;
-        let i = index[d];
-        if i < size_here(s, index, d) {
-            count = std::num::wrapping_add_u64(count, 1);
-            if d == 0 {
-                index[d] = std::num::wrapping_add_u64(i, 1);
-            } else {
-                d -= 1;
-                index[d] = 0;
-            }
-        } else {
-            d += 1;
-            if n <= d {
-                return count;
-            }
-            index[d] = std::num::wrapping_add_u64(index[d], 1);
-        }
+    for i in 0..size_here(s, &index, d) {
+        index[d] = i;
+        count = count.wrapping_add(1).wrapping_add(iterations(s, d, index));
     }
     count
 }
 
-// Walks a stream, and counts its iterations too unless it is to be timed.
-fn walk(out: &impl Print, choice: u8, vl: u64, one: u8, name: &[u8], sheet: &[u8]) {
-    if choice != one {
-        if b'0' != choice {
-            return;
-        }
-    }
-    let elements = moved(sheet, vl);
-    say(out, name);
-    say(out, b": ");
-    decimal(out, elements);
-    say(out, b" elements");
-    if choice != one {
-        let settled = set_up(sheet, sheet.len());
-        let machine = settled.machine;
-        let r = machine.registers[1];
-        let pattern = r.pattern;
-        let shape = pattern.shape;
-        say(out, b", ");
-        decimal(out, iterations(shape));
-        say(out, b" iterations");
-    }
-    say(out, b"\n");
+// The iterations of all loops of the stream that a sheet opens in register 1.
+fn counted(sheet: &[u8]) -> u64 {
+    let machine = set_up(sheet, sheet.len()).machine;
+    let shape = machine.registers[1].pattern.shape;
+    iterations(&shape, shape.dims.min(7), [0; 7])
 }
 
 fn main(rt: HostRuntime) {
-    let mut choice = [b'0'; 2];
-    take_all(&mut rt.reader(), &mut choice);
-    let mut c = choice[0];
-    let mut vl = 64;
-    if choice[1] == b'8' {
-        vl = 8;
+    let streams = [
+        Stream {
+            name: "one dimension",
+            sheet: b"\x01\x8b\x81\x01\x00\x02\x01\x00\x80\x20\x02\x04\x01\x05\x01\x01\x00\x02\x01\x01",
+        },
+        Stream {
+            name: "two dimensions",
+            sheet: b"\x01\x8b\x81\x01\x00\x02\x01\x00\x80\x20\x02\x02\x01\x00\x80\x02\x00\x04\x01\x05\x01\x01\x00\x02\x01\x01",
+        },
+        Stream {
+            name: "two dimensions, half the rows",
+            sheet: b"\x01\x8b\x81\x01\x00\x02\x01\x00\x80\x20\x02\x02\x01\x00\x80\x01\x00\x04\x01\x05\x01\x01\x00\x02\x01\x01",
+        },
+        Stream {
+            name: "triangle",
+            sheet: b"\x01\x8b\x81\x01\x00\x02\x01\x00\x01\x02\x02\x01\x00\x80\x08\x00\x03\x01\x00\x00\x00\x01\x04\x01\x05\x01\x01\x00\x02\x01\x01",
+        },
+        Stream {
+            name: "triangle, half the rows",
+            sheet: b"\x01\x8b\x81\x01\x00\x02\x01\x00\x01\x02\x02\x01\x00\x80\x04\x00\x03\x01\x00\x00\x00\x01\x04\x01\x05\x01\x01\x00\x02\x01\x01",
+        },
+        Stream {
+            name: "seven dimensions",
+            sheet: b"\x01\x8b\x81\x01\x00\x02\x01\x00\x08\x02\x02\x01\x00\x08\x02\x02\x01\x00\x08\x02\x02\x01\x00\x08\x02\x02\x01\x00\x08\x02\x02\x01\x00\x08\x02\x02\x01\x00\x04\x02\x04\x01\x05\x01\x01\x00\x02\x01\x01",
+        },
+        Stream {
+            name: "seven dimensions, half the last",
+            sheet: b"\x01\x8b\x81\x01\x00\x02\x01\x00\x08\x02\x02\x01\x00\x08\x02\x02\x01\x00\x08\x02\x02\x01\x00\x08\x02\x02\x01\x00\x08\x02\x02\x01\x00\x08\x02\x02\x01\x00\x02\x02\x04\x01\x05\x01\x01\x00\x02\x01\x01",
+        },
+        Stream {
+            name: "empty passes",
+            sheet: b"\x01\x8b\x81\x01\x00\x02\x01\x00\x00\x02\x02\x01\x00\x80\x20\x00\x02\x01\x00\x80\x01\x00\x02\x01\x00\x02\x00\x03\x01\x00\x00\x00\x01\x04\x01\x05\x01\x01\x00\x02\x01\x01",
+        },
+        Stream {
+            name: "empty passes, half of them",
+            sheet: b"\x01\x8b\x81\x01\x00\x02\x01\x00\x00\x02\x02\x01\x00\x80\x20\x00\x02\x01\x00\x40\x00\x02\x01\x00\x02\x00\x03\x01\x00\x00\x00\x01\x04\x01\x05\x01\x01\x00\x02\x01\x01",
+        },
+    ];
+    let mut input = [0; 2];
+    take_all(&mut rt.reader(), &mut input);
+    let [choice, length] = input;
+    let vl = if length == b'8' { 8 } else { 64 };
+    let all = !matches!(choice, b'1'..=b'9');
+    for (digit, Stream { name, sheet }) in (b'1'..=b'9').zip(streams) {
+        if all {
+            let _ = println!(rt;
+                "{name}: {} elements, {} iterations",
+                moved(sheet, vl),
+                counted(sheet)
+            );
+        } else if choice == digit {
+            let _ = println!(rt; "{name}: {} elements", moved(sheet, vl));
+        }
     }
-    if c < b'1' {
-        c = b'0';
-    }
-    if b'9' < c {
-        c = b'0';
-    }
-    walk(
-        &rt,
-        c,
-        vl,
-        b'1',
-        b"one dimension",
-        b"\x01\x8b\x81\x01\x00\x02\x01\x00\x80\x20\x02\x04\x01\x05\x01\x01\x00\x02\x01\x01",
-    );
-    walk(
-        &rt,
-        c,
-        vl,
-        b'2',
-        b"two dimensions",
-        b"\x01\x8b\x81\x01\x00\x02\x01\x00\x80\x20\x02\x02\x01\x00\x80\x02\x00\x04\x01\x05\x01\x01\x00\x02\x01\x01",
-    );
-    walk(
-        &rt,
-        c,
-        vl,
-        b'3',
-        b"two dimensions, half the rows",
-        b"\x01\x8b\x81\x01\x00\x02\x01\x00\x80\x20\x02\x02\x01\x00\x80\x01\x00\x04\x01\x05\x01\x01\x00\x02\x01\x01",
-    );
-    walk(
-        &rt,
-        c,
-        vl,
-        b'4',
-        b"triangle",
-        b"\x01\x8b\x81\x01\x00\x02\x01\x00\x01\x02\x02\x01\x00\x80\x08\x00\x03\x01\x00\x00\x00\x01\x04\x01\x05\x01\x01\x00\x02\x01\x01",
-    );
-    walk(
-        &rt,
-        c,
-        vl,
-        b'5',
-        b"triangle, half the rows",
-        b"\x01\x8b\x81\x01\x00\x02\x01\x00\x01\x02\x02\x01\x00\x80\x04\x00\x03\x01\x00\x00\x00\x01\x04\x01\x05\x01\x01\x00\x02\x01\x01",
-    );
-    walk(
-        &rt,
-        c,
-        vl,
-        b'6',
-        b"seven dimensions",
-        b"\x01\x8b\x81\x01\x00\x02\x01\x00\x08\x02\x02\x01\x00\x08\x02\x02\x01\x00\x08\x02\x02\x01\x00\x08\x02\x02\x01\x00\x08\x02\x02\x01\x00\x08\x02\x02\x01\x00\x04\x02\x04\x01\x05\x01\x01\x00\x02\x01\x01",
-    );
-    walk(
-        &rt,
-        c,
-        vl,
-        b'7',
-        b"seven dimensions, half the last",
-        b"\x01\x8b\x81\x01\x00\x02\x01\x00\x08\x02\x02\x01\x00\x08\x02\x02\x01\x00\x08\x02\x02\x01\x00\x08\x02\x02\x01\x00\x08\x02\x02\x01\x00\x08\x02\x02\x01\x00\x02\x02\x04\x01\x05\x01\x01\x00\x02\x01\x01",
-    );
-    walk(
-        &rt,
-        c,
-        vl,
-        b'8',
-        b"empty passes",
-        b"\x01\x8b\x81\x01\x00\x02\x01\x00\x00\x02\x02\x01\x00\x80\x20\x00\x02\x01\x00\x80\x01\x00\x02\x01\x00\x02\x00\x03\x01\x00\x00\x00\x01\x04\x01\x05\x01\x01\x00\x02\x01\x01",
-    );
-    walk(
-        &rt,
-        c,
-        vl,
-        b'9',
-        b"empty passes, half of them",
-        b"\x01\x8b\x81\x01\x00\x02\x01\x00\x00\x02\x02\x01\x00\x80\x20\x00\x02\x01\x00\x40\x00\x02\x01\x00\x02\x00\x03\x01\x00\x00\x00\x01\x04\x01\x05\x01\x01\x00\x02\x01\x01",
-    );
 }

@@ -1,24 +1,20 @@
--- Counting the bytes that changed, a place at a time: what is counted, and what is left to count.
---   changed-more   == at a place within both memories, one more if the bytes there differ
---   changed-before == nothing is left at the end of the first memory
---   changed-after  == nothing is left at the end of the second
-use Rattle.std.proofs.Common.{◌≡◌, ℕ, ◌+◌, ◌<◌, cond, eqb, List, [], ◌∷◌, length, get_or, drop, sym, refl, ap, ◌∙◌, add-zero, add_assoc, add-one, drop-cons}
-use lib.Seq.{drop-length}
+-- Counting the bytes that changed.
+--   changed_in-pairs == they are the pairs of bytes, one of each memory, that differ
+use Rattle.std.proofs.Common.{◌≡◌, ℕ, ◌+◌, Bool, true, false, cond, not, eqb, List, [], ◌∷◌, sym, refl, ap, ◌∙◌}
+use Rattle.std.specs.Prelude.{count_by}
+use Rattle.std.specs.List.{zip}
+use Rattle.std.proofs.lemmas.List.Sums.{sum_by-cons}
 use Rattle.words.specs.Changes.{changed_in}
 
-none-behind : (l : List ℕ) → changed_in l [] ≡ 0
+differing : (t : Bool) (n : ℕ) → cond t 0 1 + n ≡ cond (not t) 1 0 + n
+differing true n = refl
+differing false n = refl
+
+pub changed_in-pairs : (l m : List ℕ) → changed_in l m ≡ count_by (λ p. not (eqb p.0 p.1)) (zip l m)
 unfolding changed_in
-none-behind [] = refl
-none-behind (a ∷ l) = refl
-
-module _ (l m : List ℕ) (count at : ℕ) (so_far : count + changed_in (drop at l) (drop at m) ≡ changed_in l m) where
-  pub changed-more : (one : ℕ) → at < length l → at < length m → one ≡ cond (eqb (get_or l at 0) (get_or m at 0)) 0 1 → count + one + changed_in (drop (at + 1) l) (drop (at + 1) m) ≡ changed_in l m
-  unfolding changed_in
-  changed-more one h k e = rw (add-one, e, add_assoc) (rw (drop-cons l at 0 h, drop-cons m at 0 k) at so_far)
-
-  pub changed-before : at ≡ length l → count ≡ changed_in l m
-  unfolding changed_in
-  changed-before e = sym (add-zero count) ∙ rw (ap (λ k. drop k l) e ∙ drop-length l) at so_far
-
-  pub changed-after : at ≡ length m → count ≡ changed_in l m
-  changed-after e = sym (add-zero count) ∙ rw (ap (λ k. drop k m) e ∙ drop-length m, none-behind) at so_far
+changed_in-pairs [] m = refl
+changed_in-pairs (a ∷ l) [] = refl
+changed_in-pairs (a ∷ l) (b ∷ m) =
+    ap (λ n. cond (eqb a b) 0 1 + n) (changed_in-pairs l m)
+    ∙ differing (eqb a b) _
+    ∙ sym (sum_by-cons (λ p. cond (not (eqb p.0 p.1)) 1 0) (a, b) (zip l m))

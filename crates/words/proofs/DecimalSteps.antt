@@ -5,15 +5,15 @@
 --   digits-done  == no byte is left
 use Rattle.std.proofs.Common.{◌≡◌, ℕ, ◌+◌, ◌-◌, ◌*◌, ◌<◌, ◌≤◌, min, Bool, true, false, cond, leb, List, [], ◌∷◌, length, get_or, drop, refl, ap, ◌∙◌, le_trans, add-one, arith, drop-cons, leb-false, leb-true}
 use lib.Seq.{drop-length}
+use Rattle.std.specs.Prelude.{Some, None}
 use Rattle.words.specs.Decimals.{is_digit, are_digits, value_of, digits_from, decimal_of}
-use Rattle.words.specs.declared.number.Decimal.TheVariants.{Number, NoNumber}
 
 pub digits-some : (s : List ℕ) → 0 < length s → decimal_of s ≡ digits_from 0 s
 unfolding decimal_of
 digits-some [] h = absurd (omega arith)
 digits-some (b ∷ l) h = refl
 
-pub digits-none : (s : List ℕ) → length s ≡ 0 → decimal_of s ≡ NoNumber
+pub digits-none : (s : List ℕ) → length s ≡ 0 → decimal_of s ≡ None
 unfolding decimal_of
 digits-none [] h = refl
 digits-none (b ∷ l) h = absurd (omega arith)
@@ -35,7 +35,7 @@ cut v l false e =
 
 cut-digits : (v : ℕ) (l : List ℕ) → digits_from (min v 4294967295) l ≡ digits_from v l
 unfolding digits_from
-cut-digits v l = ap (λ k. cond (are_digits l) (Number k) NoNumber) (cut v l (leb v 4294967295) refl)
+cut-digits v l = ap (λ k. cond (are_digits l) (Some k) None) (cut v l (leb v 4294967295) refl)
 
 module _ (s : List ℕ) (value at : ℕ) (so_far : digits_from value (drop at s) ≡ digits_from 0 s) where
   pub digits_more : (next : ℕ) → at < length s → is_digit (get_or s at 0) ≡ true → next ≡ min (value * 10 + (get_or s at 0 - 48)) 4294967295 → digits_from next (drop (at + 1) s) ≡ digits_from 0 s
@@ -43,11 +43,11 @@ module _ (s : List ℕ) (value at : ℕ) (so_far : digits_from value (drop at s)
   digits_more next h d e =
       rw (e, add-one, cut-digits) (rw (drop-cons s at 0 h, d) at so_far)
 
-  pub digits-stop : at < length s → is_digit (get_or s at 0) ≡ false → NoNumber ≡ digits_from 0 s
+  pub digits-stop : at < length s → is_digit (get_or s at 0) ≡ false → None ≡ digits_from 0 s
   unfolding digits_from are_digits
   digits-stop h d = rw (drop-cons s at 0 h, d) at so_far
 
-  pub digits-done : at ≡ length s → value ≤ 4294967295 → Number value ≡ digits_from 0 s
+  pub digits-done : at ≡ length s → value ≤ 4294967295 → Some value ≡ digits_from 0 s
   unfolding digits_from are_digits value_of
   digits-done e h =
       let k : min value 4294967295 ≡ value = omega arith in

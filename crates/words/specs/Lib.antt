@@ -4,3 +4,4 @@ pub mod Files
 pub mod Outside
 pub mod OutsideLaws
 pub mod Registers
+pub mod Texts

@@ -11,7 +11,7 @@ use std::io;
 use std::io::{Read, Write};
 
 // How reading stopped: at the end of the file, in a read that failed, or with the buffer full.
-#[derive(Clone, Copy)]
+#[derive(Clone, Copy, Debug, PartialEq, Eq)]
 pub enum Stop {
     Ended,
     Failed,
@@ -29,21 +29,13 @@ impl Stop {
     pub fn failed(self) -> bool
         ensures { result ≡ is_failed self }
     {
-        match self {
-            Stop::Ended => false,
-            Stop::Failed => true,
-            Stop::Full => false,
-        }
+        matches!(self, Stop::Failed)
     }
 
     pub fn full(self) -> bool
         ensures { result ≡ is_full self }
     {
-        match self {
-            Stop::Ended => false,
-            Stop::Failed => false,
-            Stop::Full => true,
-        }
+        matches!(self, Stop::Full)
     }
 }
 
@@ -56,13 +48,7 @@ struct Told<R> {
 
 impl<R: Read> Read for Told<R> {
     fn read(&mut self, buf: &mut [u8]) -> io::Result<usize> {
-        match self.from.read(buf) {
-            Ok(n) => Ok(n),
-            Err(e) => {
-                self.why = Some(e);
-                Err(e)
-            }
-        }
+        self.from.read(buf).inspect_err(|e| self.why = Some(*e))
     }
 }
 
@@ -87,6 +73,7 @@ pub fn take_all<R: Read>(from: &mut R, out: &mut [u8]) -> Taken
     ensures end { is_ended result.stop ≡ true → IsAtEnd (R.remaining from.new) }
 {
     let mut count = 0;
+    // No iterator: each read says itself how far it came.
     while count < out.len() {
         let Ok(got) = read_on(from, out, count) else {
             return Taken {
@@ -125,10 +112,7 @@ fn unfilled(why: FillError) -> io::Error {
 
 // A path as text. One that is not UTF-8 cannot be opened.
 fn text_of(path: &[u8]) -> io::Result<&str> {
-    match str::from_utf8(path) {
-        Ok(text) => Ok(text),
-        Err(why) => Err(io::Error::from_raw_os_error(NOT_TEXT)),
-    }
+    str::from_utf8(path).map_err(|_| io::Error::from_raw_os_error(NOT_TEXT))
 }
 
 // Nothing was read.

@@ -1,186 +1,214 @@
 // Operations and calculations in words.
-use crate::text::{counted, decimal, register, say, signed};
+use crate::text::Counted;
 use codec::amounts::Bytes;
-use codec::header::{Coupling, Header, Kind};
+use codec::header::{Header, Kind};
 use codec::operation::{
     Action, Behaviour, Calculation, Dimension, Fold, Modifier, Operation, Parameter, Task,
 };
+use std::fmt;
 
 // How many dimensions and modifiers a register has been given since it was opened.
-#[derive(Clone, Copy)]
-pub struct Given {
-    pub dims: u64,
-    pub mods: u64,
+#[derive(Clone, Copy, Default)]
+pub(crate) struct Given {
+    dims: u64,
+    mods: u64,
 }
 
-pub fn kind(out: &impl Print, k: Kind) {
+impl Given {
+    // What a register has been given when an operation on it has passed.
+    pub(crate) fn after(self, o: Operation) -> Given {
+        match o {
+            Operation::Open(..) => Given::default(),
+            Operation::Dimension(_) => Given {
+                dims: self.dims.wrapping_add(1),
+                ..self
+            },
+            Operation::Modifier(_) => Given {
+                mods: self.mods.wrapping_add(1),
+                ..self
+            },
+            Operation::End(_) | Operation::Run(..) => self,
+        }
+    }
+}
+
+pub(crate) fn kind(k: Kind) -> &'static str {
     match k {
-        Kind::Load => say(out, b"load"),
-        Kind::Store => say(out, b"store"),
+        Kind::Load => "load",
+        Kind::Store => "store",
     }
 }
 
-// Writes the letter of a width, which counts bytes.
-pub fn width(out: &impl Print, bytes: u64) {
-    match bytes {
-        1 => say(out, b"B"),
-        2 => say(out, b"H"),
-        4 => say(out, b"W"),
-        _ => say(out, b"D"),
+// The letter of a width, which counts bytes.
+pub(crate) fn letter(width: u64) -> char {
+    match width {
+        1 => 'B',
+        2 => 'H',
+        4 => 'W',
+        _ => 'D',
     }
 }
 
-fn coupling(out: &impl Print, c: Coupling) {
-    match c {
-        Coupling::Uncoupled => {}
-        Coupling::Coupled(d) => {
-            say(out, b", coupled to dimension ");
-            decimal(out, d);
-        }
-    }
-}
-
-fn open(out: &impl Print, h: Header, base: Bytes) {
-    let k = h.kind;
-    let w = h.width;
-    let c = h.coupling;
-    register(out, h.register);
-    say(out, b" ");
-    kind(out, k);
-    say(out, b" ");
-    width(out, w.bytes());
-    say(out, b", base ");
-    signed(out, base.0);
-    coupling(out, c);
-}
-
-// Names a register that is not the one opened last.
-fn of_register(out: &impl Print, i: usize, here: bool) {
-    if !here {
-        say(out, b" of ");
-        register(out, i);
-    }
-    say(out, b": ");
-}
-
-fn dimension(out: &impl Print, d: Dimension, g: Given, here: bool) {
-    let offset = d.offset;
-    let stride = d.stride;
-    say(out, b"  dimension ");
-    decimal(out, std::num::wrapping_add_u64(g.dims, 1));
-    of_register(out, d.register, here);
-    say(out, b"offset ");
-    signed(out, offset.0);
-    say(out, b", size ");
-    decimal(out, d.size);
-    say(out, b", stride ");
-    signed(out, stride.0);
-}
-
-fn parameter(out: &impl Print, p: Parameter) {
+fn parameter(p: Parameter) -> &'static str {
     match p {
-        Parameter::Size => say(out, b"size"),
-        Parameter::Offset => say(out, b"offset"),
-        Parameter::Stride => say(out, b"stride"),
+        Parameter::Size => "size",
+        Parameter::Offset => "offset",
+        Parameter::Stride => "stride",
     }
 }
 
-fn behaviour(out: &impl Print, b: Behaviour) {
+fn sign(b: Behaviour) -> char {
     match b {
-        Behaviour::Add => say(out, b" + "),
-        Behaviour::Subtract => say(out, b" - "),
+        Behaviour::Add => '+',
+        Behaviour::Subtract => '-',
     }
 }
 
-fn owner(out: &impl Print, dims: u64) {
-    if dims == 0 {
-        say(out, b"no dimension yet");
-        return;
-    }
-    say(out, b"dimension ");
-    decimal(out, dims);
-}
+// The dimension to which a stream is coupled, if it is.
+#[derive(Clone, Copy)]
+struct Coupled(Option<u64>);
 
-fn modifier(out: &impl Print, m: Modifier, g: Given, here: bool) {
-    let changed = m.parameter;
-    let moves = m.behaviour;
-    say(out, b"  modifier ");
-    decimal(out, std::num::wrapping_add_u64(g.mods, 1));
-    of_register(out, m.register, here);
-    parameter(out, changed);
-    say(out, b" of dimension ");
-    decimal(out, std::num::wrapping_add_u64(m.target, 1));
-    behaviour(out, moves);
-    decimal(out, m.displacement);
-    say(out, b" x index of ");
-    owner(out, g.dims);
-}
-
-// Writes an operation in words, by what its register has been given, and whether that is the one opened last, which is then not named.
-pub fn operation(out: &impl Print, o: Operation, g: Given, here: bool) {
-    match o {
-        Operation::Open(h, base) => open(out, h, base),
-        Operation::Dimension(d) => dimension(out, d, g, here),
-        Operation::Modifier(m) => modifier(out, m, g, here),
-        Operation::End(i) => {
-            say(out, b"end ");
-            register(out, i);
-        }
-        Operation::Run(i, n) => {
-            say(out, b"run while ");
-            register(out, i);
-            say(out, b" is open: ");
-            counted(out, n, b"calculation", b"calculations");
+impl fmt::Display for Coupled {
+    fn fmt<W: fmt::Write>(&self, f: &mut fmt::Formatter<W>) -> fmt::Result {
+        match self.0 {
+            None => Ok(()),
+            Some(d) => write!(f, ", coupled to dimension {d}"),
         }
     }
 }
 
-fn between(out: &impl Print, first: usize, sign: &[u8], second: usize) {
-    register(out, first);
-    say(out, sign);
-    register(out, second);
+// The register that an operation is on, where it is not the one opened last.
+#[derive(Clone, Copy)]
+struct Of {
+    register: usize,
+    here: bool,
 }
 
-// Writes an action on two sources in words.
-fn lane_by_lane(out: &impl Print, action: Action, c: Calculation) {
-    match action {
-        Action::Copy => register(out, c.first),
-        Action::Add => between(out, c.first, b" + ", c.second),
-        Action::Subtract => between(out, c.first, b" - ", c.second),
-        Action::And => between(out, c.first, b" and ", c.second),
-        Action::Or => between(out, c.first, b" or ", c.second),
-        Action::Xor => between(out, c.first, b" xor ", c.second),
-        Action::Smaller => {
-            say(out, b"signed smaller of ");
-            between(out, c.first, b" and ", c.second);
+impl fmt::Display for Of {
+    fn fmt<W: fmt::Write>(&self, f: &mut fmt::Formatter<W>) -> fmt::Result {
+        if self.here {
+            return Ok(());
         }
-        Action::Larger => {
-            say(out, b"signed larger of ");
-            between(out, c.first, b" and ", c.second);
+        write!(f, " of u{}", self.register)
+    }
+}
+
+// The dimension that owns a modifier: the last of those that its register has been given.
+#[derive(Clone, Copy)]
+struct Owner(u64);
+
+impl fmt::Display for Owner {
+    fn fmt<W: fmt::Write>(&self, f: &mut fmt::Formatter<W>) -> fmt::Result {
+        match self.0 {
+            0 => f.write_str("no dimension yet"),
+            dims => write!(f, "dimension {dims}"),
         }
     }
 }
 
-// Writes what a fold is of, in words.
-fn over_all(out: &impl Print, fold: Fold) {
+// An operation in words, by what its register has been given, and whether that is the one opened last, which is then not named.
+#[derive(Clone, Copy)]
+pub(crate) struct Described {
+    pub(crate) operation: Operation,
+    pub(crate) given: Given,
+    pub(crate) here: bool,
+}
+
+impl Described {
+    fn open<W: fmt::Write>(f: &mut fmt::Formatter<W>, h: Header, base: Bytes) -> fmt::Result {
+        write!(
+            f,
+            "u{} {} {}, base {}{}",
+            h.register,
+            kind(h.kind),
+            letter(h.width.bytes()),
+            base.0,
+            Coupled(h.coupling)
+        )
+    }
+
+    fn dimension<W: fmt::Write>(self, f: &mut fmt::Formatter<W>, d: Dimension) -> fmt::Result {
+        write!(
+            f,
+            "  dimension {}{}: offset {}, size {}, stride {}",
+            self.given.dims.wrapping_add(1),
+            self.of(d.register),
+            d.offset.0,
+            d.size,
+            d.stride.0
+        )
+    }
+
+    fn modifier<W: fmt::Write>(self, f: &mut fmt::Formatter<W>, m: Modifier) -> fmt::Result {
+        write!(
+            f,
+            "  modifier {}{}: {} of dimension {} {} {} x index of {}",
+            self.given.mods.wrapping_add(1),
+            self.of(m.register),
+            parameter(m.parameter),
+            m.target.wrapping_add(1),
+            sign(m.behaviour),
+            m.displacement,
+            Owner(self.given.dims)
+        )
+    }
+
+    fn of(self, register: usize) -> Of {
+        Of {
+            register,
+            here: self.here,
+        }
+    }
+}
+
+impl fmt::Display for Described {
+    fn fmt<W: fmt::Write>(&self, f: &mut fmt::Formatter<W>) -> fmt::Result {
+        match self.operation {
+            Operation::Open(h, base) => Described::open(f, h, base),
+            Operation::Dimension(d) => self.dimension(f, d),
+            Operation::Modifier(m) => self.modifier(f, m),
+            Operation::End(i) => write!(f, "end u{i}"),
+            Operation::Run(i, count) => {
+                let calculations = Counted(count, "calculation", "calculations");
+                write!(f, "run while u{i} is open: {calculations}")
+            }
+        }
+    }
+}
+
+// What a fold is of.
+fn fold(fold: Fold) -> &'static str {
     match fold {
-        Fold::Sum => say(out, b"sum of "),
-        Fold::Smallest => say(out, b"signed smallest of "),
-        Fold::Largest => say(out, b"signed largest of "),
-        Fold::FirstLargest => say(out, b"lane of the first signed largest of "),
+        Fold::Sum => "sum",
+        Fold::Smallest => "signed smallest",
+        Fold::Largest => "signed largest",
+        Fold::FirstLargest => "lane of the first signed largest",
     }
 }
 
-// Writes a calculation in words.
-pub fn calculation(out: &impl Print, c: Calculation) {
-    let task = c.task;
-    register(out, c.destination);
-    say(out, b" = ");
-    match task {
-        Task::Each(action) => lane_by_lane(out, action, c),
-        Task::All(fold) => {
-            over_all(out, fold);
-            register(out, c.first);
+// A calculation in words.
+#[derive(Clone, Copy)]
+pub(crate) struct Calculated(pub(crate) Calculation);
+
+impl fmt::Display for Calculated {
+    fn fmt<W: fmt::Write>(&self, f: &mut fmt::Formatter<W>) -> fmt::Result {
+        let Calculation {
+            task,
+            destination,
+            first,
+            second,
+        } = self.0;
+        write!(f, "u{destination} = ")?;
+        match task {
+            Task::Each(Action::Copy) => write!(f, "u{first}"),
+            Task::Each(Action::Add) => write!(f, "u{first} + u{second}"),
+            Task::Each(Action::Subtract) => write!(f, "u{first} - u{second}"),
+            Task::Each(Action::And) => write!(f, "u{first} and u{second}"),
+            Task::Each(Action::Or) => write!(f, "u{first} or u{second}"),
+            Task::Each(Action::Xor) => write!(f, "u{first} xor u{second}"),
+            Task::Each(Action::Smaller) => { write!(f, "signed smaller of u{first} and u{second}") }
+            Task::Each(Action::Larger) => write!(f, "signed larger of u{first} and u{second}"),
+            Task::All(over) => write!(f, "{} of u{first}", fold(over)),
         }
     }
 }

@@ -1,15 +1,16 @@
 // Refusal 14 in words: which lane fell outside memory, and where it lies.
-ghost use Rattle.std.specs.Prelude.{◌≡◌};
+ghost use Rattle.std.specs.Prelude.{◌≡◌, Some};
 ghost use Rattle.engine.specs.Registers.{reg};
 ghost use Rattle.engine.specs.Blame.{operand_in};
-ghost use Rattle.words.specs.Outside.{lane_at};
+ghost use Rattle.words.specs.Outside.{lane_at, address_told};
 
-use crate::text::{decimal, say, signed};
+use codec::amounts::Bytes;
 use codec::number::Cursor;
-use codec::operation::{Body, Calculation, decode_calculation};
+use codec::operation::{Calculation, decode_calculation};
 use codec::refusal::Role;
-use engine::outline::{Located, element_of};
+use engine::outline::element_of;
 use engine::register::Machine;
+use std::fmt;
 
 // The register that a calculation names as an operand.
 fn named(c: Calculation, role: Role) -> usize
@@ -26,57 +27,50 @@ fn named(c: Calculation, role: Role) -> usize
 fn moved(m: Machine, register: usize) -> u64
     ensures { result ≡ (reg m register).moved }
 {
-    if 31 < register {
-        return 0;
+    match m.registers.get(register) {
+        Some(r) => r.moved,
+        None => 0,
     }
-    let r = m.registers[register];
-    r.moved
 }
 
 // Where a lane lies that the calculation at a place of a sheet would move: the element at the stop so many behind those that the
 // operand's stream has gone past.
-fn lane_at(sheet: &[u8], m: Machine, place: usize, lane: usize, role: Role) -> Located
-    ensures { result ≡ lane_at sheet.now m place lane role }
-{
-    let Body::Calculation(c, next) = decode_calculation(sheet, Cursor { at: place }) else {
-        return Located::Nowhere;
-    };
-    let i = named(c, role);
-    let n = std::num::wrapping_add_u64(moved(m, i), lane as u64);
-    element_of(sheet, sheet.len(), i, n)
-}
-
-fn operand(out: &impl Print, role: Role) {
-    match role {
-        Role::First => say(out, b"first source"),
-        Role::Second => say(out, b"second source"),
-        Role::Destination => say(out, b"destination"),
-    }
-}
-
-// Writes an address between commas, if there is one.
-fn at_address(out: &impl Print, l: Located) {
-    let Located::At(a) = l else {
-        return;
-    };
-    say(out, b", at address ");
-    signed(out, a.0);
-    say(out, b",");
-}
-
-// Writes which lane of which operand lies outside memory, of the calculation at a place of a sheet that was run and left these registers.
-pub fn lane_outside(
-    out: &impl Print,
+pub(crate) fn lane_at(
     sheet: &[u8],
     m: Machine,
     place: usize,
     lane: usize,
     role: Role,
-) {
-    say(out, b"lane ");
-    decimal(out, lane as u64);
-    say(out, b" of the ");
-    operand(out, role);
-    at_address(out, lane_at(sheet, m, place, lane, role));
-    say(out, b" lies outside memory");
+) -> Option<Bytes>
+    ensures { result ≡ lane_at sheet.now m place lane role }
+{
+    let Ok((c, next)) = decode_calculation(sheet, Cursor { at: place }) else {
+        return None;
+    };
+    let i = named(c, role);
+    let n = moved(m, i).wrapping_add(lane as u64);
+    element_of(sheet, sheet.len(), i, n)
+}
+
+pub(crate) fn operand(role: Role) -> &'static str {
+    match role {
+        Role::First => "first source",
+        Role::Second => "second source",
+        Role::Destination => "destination",
+    }
+}
+
+// An address between commas, if there is one.
+#[derive(Clone, Copy)]
+pub(crate) struct AtAddress(pub(crate) Option<Bytes>);
+
+impl fmt::Display for AtAddress {
+    ghost output = { λ l. Some (address_told l.0) };
+
+    fn fmt<W: fmt::Write>(&self, f: &mut fmt::Formatter<W>) -> fmt::Result {
+        match self.0 {
+            None => Ok(()),
+            Some(a) => write!(f, ", at address {},", a.0),
+        }
+    }
 }

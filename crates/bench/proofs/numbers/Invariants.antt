@@ -1,9 +1,6 @@
 -- No more numbers than there is room for.
-use Rattle.std.proofs.Common.{◌≡◌, ◌-◌, ◌≤◌, length}
+use Rattle.std.proofs.Common.{◌≤◌, length}
 use Rattle.bench.proofs.numbers.Given as goal
 
-abbrev pub invariant-loop-at : goal.invariant-loop-at
-invariant-loop-at l = (l.at ≤ length l.s) × (l.count ≤ length l.out) × (length l.out ≡ length l.initial.out)
-
-abbrev pub decreases-loop-at : goal.decreases-loop-at
-decreases-loop-at l = length l.s - l.at
+abbrev pub invariant-loop-digits : goal.invariant-loop-digits
+invariant-loop-digits l = l.count ≤ length l.room

@@ -1,17 +1,12 @@
--- `uve_run` meets its contract: a short report is left; else the run is the engine's, and what is left to put, put behind the numbers
-use Prim.Native.Nat.{◌+◌, ◌-◌, ◌*◌, ◌≤◌}
-use mathlib.Core.Path.{◌≡◌}
-use mathlib.Core.List.{◌++◌}
-use lib.ListN.{length}
-use lib.Seq.{sets}
+-- What is left to put, put behind the registers that were, gives the same report throughout.
+use Rattle.std.proofs.Common.{◌≡◌, ◌+◌, ◌-◌, ◌*◌, ◌++◌}
+use Rattle.std.proofs.lemmas.List.Edits.{sets}
+use Rattle.engine.specs.declared.register.Machine.{Machine}
 use Rattle.uve.specs.Reports.{bytes_of64, registers_from, mask_numbers}
 use Rattle.uve.proofs.uve_run.Given as goal
 
 abbrev pub invariant-loop-i : goal.invariant-loop-i
-invariant-loop-i l = (l.i ≤ 32)
-    × (3712 ≤ length l.report)
-    × (length l.report ≡ length l.initial.report)
-    × (sets l.report (64 + 112 * l.i) (bytes_of64 (registers_from l.machine l.i (32 - l.i) ++ mask_numbers)) ≡ sets l.initial.report 64 (bytes_of64 (registers_from l.machine 0 32 ++ mask_numbers)))
-
-abbrev pub decreases-loop-i : goal.decreases-loop-i
-decreases-loop-i l = 32 - l.i
+invariant-loop-i l =
+    let m : Machine = record { registers = l.register-items } in
+    sets l.report (64 + 112 * l.i) (bytes_of64 (registers_from m l.i (32 - l.i) ++ mask_numbers))
+    ≡ sets l.initial.report 64 (bytes_of64 (registers_from m 0 32 ++ mask_numbers))

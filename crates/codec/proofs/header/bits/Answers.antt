@@ -2,13 +2,9 @@
 use native.Mathlib.Omega.{arith}
 use lib.Bits.{and_mask}
 use Prim.Native.Nat.{◌/◌, ◌^◌}
-use lib.Pow.{shl_exact, pow_pos}
+use lib.Pow.{shl_exact}
 use native.Mathlib.Nat.{one-mul}
 use Rattle.codec.proofs.header.bits.Goals as goal
-
-pub overflow_sub-result : goal.overflow_sub-result
-overflow_sub-result c =
-    rw (shl_exact {a = 1} 1 c.args.n 32 (omega arith) (omega arith), one-mul) (pow_pos c.args.n)
 
 pub returns : goal.returns
 returns c =

@@ -1,31 +1,22 @@
--- `writing::put` meets its contract: it writes exactly if the place and the length of the text fit the slice.
-use native.Mathlib.Omega.{arith}
-use Prim.Native.Nat.{◌+◌}
-use mathlib.Core.Path.{◌≡◌, ap, sym, ◌∙◌}
-use lib.ListN.{length}
-use lib.Seq.{length-take-le}
-use Rattle.codec.specs.declared.writing.Written.TheVariants.{To}
-use Rattle.codec.specs.Writing.{text_of}
-use Rattle.codec.proofs.Texts.{no_room, room}
-use borrow.Author.Rules.{rules}
+-- `writing::put` meets its contract: what is ready is what is asked for.
+use Rattle.std.proofs.Common.{◌≡◌, sym, ◌∙◌, ap, arith, length}
+use Rattle.codec.proofs.Texts.{not_ready, no_room, room, part-set}
 use Rattle.codec.proofs.writing.put.Goals as goal
 
-pub returns-then-size-at : goal.returns-then-size-at
-returns-then-size-at c =
-    let whole : length (text_of c.args.t) ≡ c.args.t.len = let n : length c.args.t.bytes ≡ 32 = search rules in
-    length-take-le c.args.t.len c.args.t.bytes (omega arith) in
-    let s = c in no_room (text_of s.args.t) s.args.buf.now s.args.at (omega (arith, whole))
+pub returns-in_default : goal.returns-in_default
+returns-in_default c = λ b bytes e. not_ready bytes c.args.buf.now c.args.at b (sym c.in_default.is ∙ e)
 
-pub returns-then-size-at-2 : goal.returns-then-size-at-2
-returns-then-size-at-2 c =
-    let whole : length (text_of c.args.t) ≡ c.args.t.len = let n : length c.args.t.bytes ≡ 32 = search rules in
-    length-take-le c.args.t.len c.args.t.bytes (omega arith) in
-    let s = c in no_room (text_of s.args.t) s.args.buf.now s.args.at (omega (arith, whole))
+pub returns-then-buf-at : goal.returns-then-buf-at
+returns-then-buf-at c = λ b bytes e.
+    no_room bytes c.args.buf.now c.args.at b c.in-Some.text (sym c.in-Some.is ∙ e) (omega arith)
+
+pub returns-then-room-len : goal.returns-then-room-len
+returns-then-room-len c = λ b bytes e.
+    let whole : c.len-len.result ≡ length c.in-Some.text = c.len-len.ensures.value ∙ ap length c.text.view_is in
+    no_room bytes c.args.buf.now c.args.at b c.in-Some.text (sym c.in-Some.is ∙ e) (omega arith)
 
 pub returns : goal.returns
-returns c =
-    let whole : length (text_of c.args.t) ≡ c.args.t.len = let n : length c.args.t.bytes ≡ 32 = search rules in
-    length-take-le c.args.t.len c.args.t.bytes (omega arith) in
-    let s = c in
-    let p = room (text_of s.args.t) s.args.buf.now s.args.at (omega (arith, whole)) in
-    (ap (λ n. To (s.args.at + n)) (sym (whole)) ∙ p.0, c.copy.ensures ∙ p.1)
+returns c = λ b bytes e.
+    let whole : c.len-len.result ≡ length c.in-Some.text = c.len-len.ensures.value ∙ ap length c.text.view_is in
+    let same = c.copy_from_slice.ensures.after ∙ c.as_slice.ensures.value ∙ c.text.view_is in
+    room bytes c.args.buf.now c.args.at b c.in-Some.text _ c.len-len.result (sym c.in-Some.is ∙ e) (omega arith) whole (part-set c.args.at _ c.args.buf.now c.in-Some.text _ same (omega arith) (omega arith))

@@ -1,27 +1,9 @@
 -- `address::in_bytes` meets its contract: a product of such factors stays within 2^51.
 use Rattle.std.proofs.Common.{◌*◌, ◌^◌, ◌≤◌, nat_abs, refl, mul-le-mul, arith}
-use Rattle.codec.proofs.Integers.{fits, back, cast}
+use Rattle.codec.proofs.Integers.{back, cast}
 use Rattle.engine.specs.Addresses.{in_bytes}
 use Rattle.engine.specs.AddressLaws.{bytes_most}
 use Rattle.engine.proofs.address.in_bytes.Goals as goal
-
-pub overflow_mul-n : goal.overflow_mul-n
-overflow_mul-n c =
-    let count : c.args.index * c.args.width ≤ 32768 = mul-le-mul {n₂ = 4096} {m₂ = 8} (omega arith) (omega arith) in
-    omega (arith, count)
-
-pub overflow_cast-result : goal.overflow_cast-result
-overflow_cast-result c =
-    let count : c.args.index * c.args.width ≤ 32768 = mul-le-mul {n₂ = 4096} {m₂ = 8} (omega arith) (omega arith) in
-    omega (arith, count)
-
-pub overflow_mul-result : goal.overflow_mul-result
-overflow_mul-result c =
-    let count : c.args.index * c.args.width ≤ 32768 = mul-le-mul {n₂ = 4096} {m₂ = 8} (omega arith) (omega arith) in
-    let small : nat_abs (in_bytes c.args.stride.0 c.args.index c.args.width) ≤ 2 ^ 51 = let s = c in
-    bytes_most s.args.stride.0 s.args.index s.args.width s.requires.0 s.requires.1 s.requires.2 in
-    let a = c.args in
-    rw (back a.stride.0 (omega arith), cast (a.index * a.width) (omega (arith, count))) (fits _ (omega (arith, small)))
 
 pub returns : goal.returns
 returns c =

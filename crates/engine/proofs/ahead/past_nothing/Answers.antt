@@ -3,7 +3,6 @@ use Rattle.std.proofs.Common.{◌≡◌, suc, ◌+◌, true, cond, [], length, g
 use Rattle.engine.specs.Chunks.{held_in, chunk}
 use Rattle.engine.specs.StopLaws.{chunk-none}
 use Rattle.engine.specs.ComeLaws.{past-nothing}
-use Rattle.engine.specs.Rows.{pattern_in}
 use Rattle.engine.specs.Walk.{Stop}
 use Rattle.engine.specs.Places.{Onward, place_at}
 use Rattle.engine.specs.Stretches.{addresses_of}
@@ -16,7 +15,7 @@ pub leave_row-next-requires : goal.leave_row-next-requires
 leave_row-next-requires c =
     let a = c in
     let y = a.requires.0 in
-    let p = pattern_in a.args.shape.now a.args.places.now in
+    let p = a.args.pattern.now in
     record { ranged_pattern = (y.pattern, (y.width, y.accepted)); stop = subst (Stop p.shape (set a.args.index.now 0 a.args.r.index)) a.requires.1 (here-stop p a.args.index.now a.args.r y) }
 
 pub returns : goal.returns
@@ -24,7 +23,7 @@ returns c =
     let v = c in
     let a = v in
     let q = a.args.r in
-    let p = pattern_in a.args.shape.now a.args.places.now in
+    let p = a.args.pattern.now in
     let before = a.args.index.now in
     let y = a.requires.0 in
     let t = v.leave_row-next in

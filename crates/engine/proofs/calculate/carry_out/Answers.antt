@@ -4,30 +4,30 @@ use Rattle.engine.specs.ByteLaws.{Bytewise}
 use Rattle.engine.specs.Lanes.{outcome, outcome_count}
 use Rattle.engine.specs.LaneLaws.{width-range}
 use Rattle.engine.specs.Memory.{lanes_from, packed}
-use Rattle.engine.specs.Stretches.{all_within, fetched_at, stored_at, Parts}
+use Rattle.engine.specs.Stretches.{all_within, fetched_at, stored_at}
 use Rattle.engine.specs.Runnings.{listed_in, filled_with, afterwards}
-use Rattle.engine.proofs.Carrying.{chunk-same, read_back, result-back}
+use Rattle.engine.proofs.Carrying.{chunk-same, bytewise-read, read_back, result-back}
 use Rattle.engine.proofs.calculate.carry_out.Goals as goal
 
 pub read_source-requires : goal.read_source-requires
 read_source-requires c =
     let a = c in
     let w = a.requires.within in
-    record { le_width = (width-range _ w.wide, λ t. (subst (λ k. k * a.args.width ≤ 64) (sym (w.first_long t)) w.room, w.parts.0)); parts_value = w.first }
+    record { room = (width-range _ w.wide, λ t. (subst (λ k. k * a.args.width ≤ 64) (sym (w.first_long t)) w.room, w.parts.0)); inside = w.first }
 
 pub read_second-requires : goal.read_second-requires
 read_second-requires c =
     let a = c in
     let w = a.requires.within in
     let p : a.args.same ≡ false → cond a.args.same a.args.xs.now a.args.ys.now ≡ a.args.ys.now = λ e. ap (λ b. cond b a.args.xs.now a.args.ys.now) e in record {
-      le_width = (
+      room = (
         width-range _ w.wide,
         λ e t. (
           subst (λ l. length (listed_in a.args.y l) * a.args.width ≤ 64) (p e) (subst (λ k. k * a.args.width ≤ 64) (sym (w.second_long t ∙ w.counts)) w.room),
-          subst (Parts a.args.y.parts) (p e) w.parts.1.0,
+          w.parts.1.0,
         ),
       );
-      parts_value = λ e t. subst (λ l. all_within (length a.args.memory.now) a.args.width (listed_in a.args.y l) ≡ true) (p e) (w.second t);
+      inside = λ e t. subst (λ l. all_within (length a.args.memory.now) a.args.width (listed_in a.args.y l) ≡ true) (p e) (w.second t);
     }
 
 pub calculate_lanes-requires : goal.calculate_lanes-requires
@@ -38,7 +38,7 @@ pub write_destination-requires : goal.write_destination-requires
 write_destination-requires c =
     let w = c.requires.within in
     let k = c.outcome_count-k.ensures in
-    record { le_width = (width-range _ w.wide, subst (λ n. n * c.args.width ≤ 64) (sym k) w.fits); parts_len = λ t. ((w.third_long t ∙ w.fills t ∙ sym k, w.parts.1.1), w.third t) }
+    record { room = (width-range _ w.wide, subst (λ n. n * c.args.width ≤ 64) (sym k) w.fits); listed = λ t. ((w.third_long t ∙ w.fills t ∙ sym k, w.parts.1.1), w.third t) }
 
 pub after_read-requires : goal.after_read-requires
 after_read-requires c =
@@ -58,7 +58,7 @@ returns c =
     → c.read_second.new.lanes ≡ cond c.args.y.live (packed c.args.width (fetched_at c.args.memory.now c.args.width (listed_in c.args.y (cond c.args.same c.args.xs.now c.args.ys.now)))) c.args.lb.now = λ b. elim b as (λ v. c.args.same ≡ v → c.read_second.new.lanes ≡ cond c.args.y.live (packed c.args.width (fetched_at c.args.memory.now c.args.width (listed_in c.args.y (cond c.args.same c.args.xs.now c.args.ys.now)))) c.args.lb.now) [
       | true ↦ λ e.
           let a = c in
-          let h = a.requires.y_value e in
+          let h = a.requires.alike e in
           rw e ((rw e at c.read_second.ensures) ∙ c.read_source.ensures
           ∙ (λ i. cond (sym h.0 i).live (packed a.args.width (fetched_at a.args.memory.now a.args.width (listed_in (sym h.0 i) a.args.xs.now))) (sym h.1 i)))
       | false ↦ λ e. rw e (rw e at c.read_second.ensures)
@@ -91,5 +91,5 @@ returns c =
       written = c.after_write.ensures ∙ ap (λ j. cond a.args.z.live (afterwards a.args.z a.args.d) (filled_with width j (afterwards a.args.z a.args.d))) k.ensures;
       content = d.ensures.lanes_after ∙ ap (λ l. cond a.args.z.live a.args.ld.now l) (o.ensures ∙ ap (packed width) e);
       stored = d.ensures.memory_after ∙ ap (λ l. cond a.args.z.live (stored_at m width (listed_in a.args.z a.args.zs.now) l) m)
-          (ap (lanes_from _ width 0) k.ensures ∙ ap (λ l. lanes_from l width 0 (outcome_count a.args.task n)) o.ensures ∙ result-back a.args.task width n first second w.wide w.room c.look_at-one.ensures c.look_at-other.ensures ∙ e);
+          (ap (lanes_from _ width 0) k.ensures ∙ ap (λ l. lanes_from l width 0 (outcome_count a.args.task n)) o.ensures ∙ result-back a.args.task width n first second w.wide w.room (bytewise-read x.live width _ a.args.la.now r.ensures c.fits-la) (bytewise-read y.live width _ a.args.lb.now s c.fits-lb) ∙ e);
     }

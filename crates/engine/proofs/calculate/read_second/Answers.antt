@@ -10,8 +10,8 @@ read_parts-requires c =
     let h = c.requires in
     let s = c.if-same.false in
     let e = c.if-o.true in
-    let f = h.le_width.1 s e in
-    record { m_bound = f.1; le_width = (h.le_width.0, f.0); parts_value = h.parts_value s e }
+    let f = h.room.1 s e in
+    record { room = (h.room.0, f.0); inside = h.inside s e }
 
 pub returns-then-o : goal.returns-then-o
 returns-then-o c =

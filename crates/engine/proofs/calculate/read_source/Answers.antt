@@ -5,8 +5,8 @@ pub read_parts-requires : goal.read_parts-requires
 read_parts-requires c =
     let h = c.requires in
     let e = c.if-o.true in
-    let f = h.le_width.1 e in
-    record { m_bound = f.1; le_width = (h.le_width.0, f.0); parts_value = h.parts_value e }
+    let f = h.room.1 e in
+    record { room = (h.room.0, f.0); inside = h.inside e }
 
 pub returns-then-o : goal.returns-then-o
 returns-then-o c =

@@ -13,16 +13,15 @@ returns-then-not-o c =
 pub write_parts-requires : goal.write_parts-requires
 write_parts-requires c =
     let a = c in
-    let f = a.requires.parts_len (not-false a.args.o.live c.if-not-o.false) in
+    let f = a.requires.listed (not-false a.args.o.live c.if-not-o.false) in
     record {
-      m_bound = f.0.1;
-      le_width = (a.requires.le_width.0, subst (λ k. k * a.args.width ≤ 64) (sym f.0.0) a.requires.le_width.1);
-      parts_value = f.1;
+      room = (a.requires.room.0, subst (λ k. k * a.args.width ≤ 64) (sym f.0.0) a.requires.room.1);
+      inside = f.1;
     }
 
 pub returns : goal.returns
 returns c =
     let a = c in
     let e = not-false a.args.o.live c.if-not-o.false in
-    let f = a.requires.parts_len e in
+    let f = a.requires.listed e in
     record { lanes_after = rw e; memory_after = rw e (c.write_parts.ensures ∙ ap (λ k. stored_at a.args.memory.now a.args.width (listed_in a.args.o a.args.parts.now) (lanes_from a.args.out.now a.args.width 0 k)) f.0.0) }

@@ -1,5 +1,5 @@
 -- `fold::extreme_lane` meets its contract: the first lane, and the others taken with it.
-use Rattle.std.proofs.Common.{◌≡◌, ◌-◌, ◌*◌, ◌∷◌, length, sym, ap, ◌∙◌, zero-mul, arith, pow_pos, rules}
+use Rattle.std.proofs.Common.{◌≡◌, ◌-◌, ◌*◌, ◌∷◌, sym, ap, ◌∙◌, zero-mul, arith, pow_pos}
 use Rattle.engine.specs.Memory.{value_at, lanes_from}
 use Rattle.engine.specs.Lanes.{extreme}
 use Rattle.engine.proofs.FoldSteps.{lanes_next, whole_row}
@@ -10,16 +10,6 @@ unfolding extreme lanes_from
 returns-then-n-eq0 c =
     let a = c.args in
     (sym (ap (λ n. extreme a.action (8 * a.width) (lanes_from a.lanes.now a.width 0 n)) c.if-n-eq0.true), pow_pos (8 * a.width))
-
-pub load-first-requires : goal.load-first-requires
-load-first-requires c =
-    let s = c in
-    let m : length s.args.lanes.now ≡ 64 = search rules in
-    (omega arith, s.requires.0.1)
-
-pub taken_through-requires : goal.taken_through-requires
-taken_through-requires c =
-    let s = c in record { le_width = (s.requires.0, (omega arith, s.requires.1)); start_bound = c.load-first.ensures.1 }
 
 pub returns : goal.returns
 unfolding extreme

@@ -1,22 +1,24 @@
--- `memory::load` meets its contract: at each width by the function for it.
-use Rattle.std.proofs.Common.{◌≡◌, sym, ◌∙◌}
-use Rattle.engine.proofs.ByteSteps.{one-loaded, one_byte}
+-- `memory::load` meets its contract: at each width the bytes' own number.
+use Rattle.std.proofs.Common.{sym, refl, ◌∙◌}
+use Rattle.engine.proofs.ByteSteps.{one-loaded, loaded_2, loaded_4, loaded_8}
 use Rattle.engine.proofs.memory.load.Goals as goal
 
-pub returns-then-width-eq1 : goal.returns-then-width-eq1
-returns-then-width-eq1 c =
+pub returns-in-1 : goal.returns-in-1
+returns-in-1 c =
     let a = c.args in
-    let e : a.width ≡ 1 = c.if-width-eq1.true in
-    (c.wide.ensures.0 ∙ sym (one-loaded a.bytes.now a.at a.width e), one_byte c.wide.result a.width e c.wide.ensures.1)
+    rw (c.in-1.is, c.from.ensures) (sym (one-loaded a.bytes.now a.at 1 refl), (c.type_inv.bytes a.at).fits)
 
-pub returns-then-width-eq2 : goal.returns-then-width-eq2
-returns-then-width-eq2 c =
-    rw c.if-width-eq2.true c.load2.ensures
+pub returns-in-2 : goal.returns-in-2
+returns-in-2 c =
+    let a = c.args in
+    rw (c.in-2.is, c.from-in-2.ensures) (c.from_le_bytes.ensures ∙ loaded_2 a.bytes.now a.at c.bytes_at.ensures, c.from_le_bytes.type_inv)
 
-pub returns-then-width-eq4 : goal.returns-then-width-eq4
-returns-then-width-eq4 c =
-    rw c.if-width-eq4.true c.load4.ensures
+pub returns-in-4 : goal.returns-in-4
+returns-in-4 c =
+    let a = c.args in
+    rw (c.in-4.is, c.from-in-4.ensures) (c.from_le_bytes-in-4.ensures ∙ loaded_4 a.bytes.now a.at c.bytes_at-in-4.ensures, c.from_le_bytes-in-4.type_inv)
 
-pub returns-then-width-eq8 : goal.returns-then-width-eq8
-returns-then-width-eq8 c =
-    rw c.if-width-eq8.true c.load8.ensures
+pub returns-in-8 : goal.returns-in-8
+returns-in-8 c =
+    let a = c.args in
+    rw c.in-8.is (c.from_le_bytes-in-8.ensures ∙ loaded_8 a.bytes.now a.at c.bytes_at-in-8.ensures, c.from_le_bytes-in-8.type_inv)

@@ -1,18 +1,25 @@
--- `memory::store` meets its contract: at each width by the function for it.
+-- `memory::store` meets its contract: at each width the number's own bytes.
+use Rattle.std.proofs.Common.{ap, ◌∙◌}
+use Rattle.std.proofs.lemmas.List.Edits.{sets}
+use Rattle.engine.proofs.ByteSteps.{stored_1, stored_2, stored_4, stored_8}
 use Rattle.engine.proofs.memory.store.Goals as goal
 
-pub returns-then-width-eq1 : goal.returns-then-width-eq1
-returns-then-width-eq1 c =
-    rw c.if-width-eq1.true c.store1.ensures
+pub returns-in-1 : goal.returns-in-1
+returns-in-1 c =
+    let a = c.args in
+    rw c.in-1.is (c.put.ensures ∙ ap (sets a.bytes.now a.at) (stored_1 a.x))
 
-pub returns-then-width-eq2 : goal.returns-then-width-eq2
-returns-then-width-eq2 c =
-    rw c.if-width-eq2.true c.store2.ensures
+pub returns-in-2 : goal.returns-in-2
+returns-in-2 c =
+    let a = c.args in
+    rw c.in-2.is (c.put-in-2.ensures ∙ ap (sets a.bytes.now a.at) (c.to_le_bytes.ensures ∙ stored_2 a.x))
 
-pub returns-then-width-eq4 : goal.returns-then-width-eq4
-returns-then-width-eq4 c =
-    rw c.if-width-eq4.true c.store4.ensures
+pub returns-in-4 : goal.returns-in-4
+returns-in-4 c =
+    let a = c.args in
+    rw c.in-4.is (c.put-in-4.ensures ∙ ap (sets a.bytes.now a.at) (c.to_le_bytes-in-4.ensures ∙ stored_4 a.x))
 
-pub returns-then-width-eq8 : goal.returns-then-width-eq8
-returns-then-width-eq8 c =
-    rw c.if-width-eq8.true c.store8.ensures
+pub returns-in-8 : goal.returns-in-8
+returns-in-8 c =
+    let a = c.args in
+    rw c.in-8.is (c.put-in-8.ensures ∙ ap (sets a.bytes.now a.at) (c.to_le_bytes-in-8.ensures ∙ stored_8 a.x))

@@ -1,36 +1,11 @@
--- `sheet::is_named` meets its contract: what is left to look at decides.
-use Rattle.std.proofs.Common.{sym, refl, ◌∙◌, arith, rules}
-use Rattle.engine.proofs.Lengths.{unmapped}
-use Rattle.engine.proofs.BodySteps.{named-first, named-second, not_named, named_none}
+-- `sheet::is_named` meets its contract: some calculation is one that names the register.
+use Rattle.std.proofs.Common.{◌∙◌, rules, tests}
+use Rattle.std.proofs.lemmas.Iterator.{YieldsList-from_slice}
+use Rattle.std.proofs.lemmas.Iterator.Search.{any_from_yields_List}
+use Rattle.engine.proofs.BodySteps.{is_source, named}
 use Rattle.engine.proofs.sheet.is_named.Goals as goal
-
-pub loop-k-init : goal.loop-k-init
-loop-k-init c =
-    (omega arith, c.requires, search (rules, unmapped), refl)
-
-pub returns-then-register-c : goal.returns-then-register-c
-returns-then-register-c c =
-    let l = c.loop-k in
-    sym (l.invariant.3 ∙ named-first c.args.register c.args.body.count l.k c.args.body.steps (omega (arith, c.loop-k-test.true)) (omega arith) c.if-register-c.true)
-
-pub returns-then-register-c-2 : goal.returns-then-register-c-2
-returns-then-register-c-2 c =
-    let l = c.loop-k in
-    sym (l.invariant.3 ∙ named-second c.args.register c.args.body.count l.k c.args.body.steps (omega (arith, c.loop-k-test.true)) (omega arith) c.if-register-c.false c.if-register-c-2.true)
-
-pub loop-k-smaller : goal.loop-k-smaller
-loop-k-smaller c =
-    omega (arith, c.loop-k-test.true)
-
-pub loop-k-preserved : goal.loop-k-preserved
-loop-k-preserved c =
-    let l = c.loop-k in (
-      omega (arith, c.loop-k-test.true),
-      l.invariant.1,
-      l.invariant.2,
-      l.invariant.3 ∙ not_named c.args.register c.args.body.count l.k c.args.body.steps (omega (arith, c.loop-k-test.true)) (omega arith) c.if-register-c.false c.if-register-c-2.false,
-    )
 
 pub returns : goal.returns
 returns c =
-    let l = c.loop-k in sym (l.invariant.3 ∙ named_none c.args.register c.args.body.count l.k c.args.body.steps c.loop-k-test.false)
+    any_from_yields_List (is_source c.args.register) _ _ _ c.any.ensures.ran (YieldsList-from_slice c.args.body.now.items cc) (λ x b q k. search (rules, tests))
+    ∙ named c.args.register c.args.body.now.items

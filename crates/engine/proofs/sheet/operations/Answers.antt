@@ -1,106 +1,116 @@
 -- `sheet::operations` meets its contract: what is left of the sheet stays what there was to do.
-use Rattle.std.proofs.Common.{◌≡◌, ◌-◌, ◌<◌, true, sym, refl, ap, ◌∙◌, subst, arith}
-use Rattle.codec.specs.Operations.{operation_in_range}
+use Rattle.std.proofs.Common.{◌≡◌, ℕ, ◌+◌, ◌-◌, ◌<◌, true, List, sym, ap, ◌∙◌, subst, arith}
+use Rattle.std.specs.Prelude.{Ok}
+use Rattle.std.proofs.lemmas.Result.{err_from_is_err_and}
+use Rattle.codec.specs.NumberLaws.{AreBytes}
+use Rattle.codec.specs.Operations.{Decoded, operation_in_range, operation_at}
 use Rattle.codec.specs.OperationLaws.{operation-read}
+use Rattle.codec.specs.RangeLaws.{run-range}
+use Rattle.codec.specs.declared.number.Cursor.{Cursor}
+use Rattle.codec.specs.declared.operation.Operation.{Operation}
 use Rattle.engine.specs.Registers.{put}
-use Rattle.engine.specs.Configure.{why_not, configured}
+use Rattle.engine.specs.Configure.{why_not, configured, register_of}
 use Rattle.engine.specs.Good.{AllGood}
 use Rattle.engine.specs.GoodLaws.{in-machine, configured-by, configured-good}
 use Rattle.engine.specs.Sheets.{operations_from}
-use Rattle.engine.proofs.SheetSteps.{ops-none, ops-out, ops-refused, ops-run, ops-because, ops-next, run-range}
+use Rattle.engine.proofs.SheetSteps.{configures, ops-none, ops-out, ops-refused, ops-run, ops-because, ops-next}
 use Rattle.engine.proofs.sheet.operations.Goals as goal
 
-pub loop-left-init : goal.loop-left-init
-loop-left-init c =
-    (c.requires, omega (arith, c.no_steps-body.ensures), refl)
+-- an operation that was read is in range, and so its register is one of the machine's
+module _ (s : List ℕ) (at : ℕ) (r : Decoded) (o : Operation) (next : Cursor) where
+  read_in_range : AreBytes s → r ≡ operation_at s at → r ≡ Ok (o, next) → operation_in_range o ≡ true
+  read_in_range b e was = (operation-read s at o next b (sym e ∙ was)).range
+
+  machine_has : (i : ℕ) → AreBytes s → r ≡ operation_at s at → r ≡ Ok (o, next) → i ≡ register_of o → i < 32
+  machine_has i b e was k = omega (arith, in-machine o (read_in_range b e was), k)
 
 pub returns-then-s-at : goal.returns-then-s-at
 returns-then-s-at c =
-    let l = c.loop-left in
-    (sym (ops-out l.left _ l.at (record { registers = l.registers }) c.if-s-at.true) ∙ l.invariant.2, l.invariant.1)
+    let l = c.loop in
+    sym (ops-out _ _ l.at l.machine c.if-s-at.true) ∙ l.invariant.1
 
-pub returns-in-Refused : goal.returns-in-Refused
-returns-in-Refused c =
-    let l = c.loop-left in
-    (sym (ops-refused l.left _ l.at (record { registers = l.registers }) c.loop-left-test.true c.if-s-at.false _ _ (sym c.decode.ensures ∙ c.in-Refused.is)) ∙ l.invariant.2, l.invariant.1)
+pub returns-in_err-o : goal.returns-in_err-o
+returns-in_err-o c =
+    let l = c.loop in
+    let e = c.in_err-o.field-0.0 in
+    let r = err_from_is_err_and c.from_residual.result c.from_residual.ensures.1 in
+    rw (r.1, r.2)
+    (sym (ops-refused _ _ l.at l.machine (omega (arith, c.loop-test.true)) c.if-s-at.false e.refusal e.place (sym c.decode.ensures ∙ c.in_err-o.was)) ∙ l.invariant.1)
 
-pub run_ending-e-requires : goal.run_ending-e-requires
-run_ending-e-requires c =
-    let in-range : operation_in_range c.in-Operation.o ≡ true = (operation-read _ _ _ _ (λ i. (c.shared_slice_known-1.given i).fits) (sym c.decode.ensures ∙ c.in-Operation.is)).range in
-    run-range _ _ _ (in-range) (sym c.turn_of-turn.ensures ∙ c.in-Run.is)
+pub run_ending-requires : goal.run_ending-requires
+run_ending-requires c =
+    let o = c.in_ok-o in
+    let in-range = read_in_range c.args.s.now c.loop.at c.decode.result o.o o.next (λ i. (c.type_inv.s i).fits) c.decode.ensures o.was in
+    let r = run-range c.in-Run.register c.in-Run.n (ap operation_in_range (sym c.in-Run.is) ∙ in-range) in
+    (omega (arith, r.0), omega (arith, r.1))
+
+pub returns-in_err-run : goal.returns-in_err-run
+returns-in_err-run c =
+    let l = c.loop in
+    let r = err_from_is_err_and c.from_residual-in_err-run.result c.from_residual-in_err-run.ensures.1 in
+    rw (r.1, r.2)
+    (ap (λ t. record { machine = l.machine; ending = t }) c.in_err-run.ensures
+    ∙ sym (ops-run _ _ l.at l.machine (omega (arith, c.loop-test.true)) c.if-s-at.false c.in_ok-o.next _ _ (sym c.decode.ensures ∙ c.in_ok-o.was ∙ ap (λ o. Ok (o, c.in_ok-o.next)) c.in-Run.is))
+    ∙ l.invariant.1)
 
 pub returns-in-Run : goal.returns-in-Run
 returns-in-Run c =
-    let l = c.loop-left in
-    let e = c.run_ending-e.ensures in (
-      ap (λ t. record { machine = record { registers = l.registers }; ending = t }) e.0
-          ∙ sym (ops-run l.left _ l.at (record { registers = l.registers }) c.loop-left-test.true c.if-s-at.false _ _ _ _ (sym c.decode.ensures ∙ c.in-Operation.is) (sym c.turn_of-turn.ensures ∙ c.in-Run.is))
-          ∙ l.invariant.2,
-      e.1,
-    )
+    let l = c.loop in
+    ap (λ t. record { machine = l.machine; ending = t }) c.in_ok-run.ensures
+    ∙ sym (ops-run _ _ l.at l.machine (omega (arith, c.loop-test.true)) c.if-s-at.false c.in_ok-o.next _ _ (sym c.decode.ensures ∙ c.in_ok-o.was ∙ ap (λ o. Ok (o, c.in_ok-o.next)) c.in-Run.is))
+    ∙ l.invariant.1
 
-pub offset_bounds-registers-i : goal.offset_bounds-registers-i
-offset_bounds-registers-i c =
-    let in-range : operation_in_range c.in-Operation.o ≡ true = (operation-read _ _ _ _ (λ i. (c.shared_slice_known-1.given i).fits) (sym c.decode.ensures ∙ c.in-Operation.is)).range in
-    let known : c.register_of-i.result < 32 = omega (arith, in-machine _ (in-range), c.register_of-i.ensures) in
-    omega (arith, known)
+pub offset_bounds-machine-i : goal.offset_bounds-machine-i
+offset_bounds-machine-i c =
+    let o = c.in_ok-o in
+    omega (arith, machine_has c.args.s.now c.loop.at c.decode.result o.o o.next c.register_of-i.result (λ i. (c.type_inv.s i).fits) c.decode.ensures o.was c.register_of-i.ensures)
 
-pub bounds-registers-i : goal.bounds-registers-i
-bounds-registers-i c =
-    let in-range : operation_in_range c.in-Operation.o ≡ true = (operation-read _ _ _ _ (λ i. (c.shared_slice_known-1.given i).fits) (sym c.decode.ensures ∙ c.in-Operation.is)).range in
-    let known : c.register_of-i.result < 32 = omega (arith, in-machine _ (in-range), c.register_of-i.ensures) in
-    known
+pub bounds-machine-i : goal.bounds-machine-i
+bounds-machine-i c =
+    let o = c.in_ok-o in
+    machine_has c.args.s.now c.loop.at c.decode.result o.o o.next c.register_of-i.result (λ i. (c.type_inv.s i).fits) c.decode.ensures o.was c.register_of-i.ensures
 
-pub apply-q-requires : goal.apply-q-requires
-apply-q-requires c =
-    let in-range : operation_in_range c.in-Operation.o ≡ true = (operation-read _ _ _ _ (λ i. (c.shared_slice_known-1.given i).fits) (sym c.decode.ensures ∙ c.in-Operation.is)).range in
-    let known : c.register_of-i.result < 32 = omega (arith, in-machine _ (in-range), c.register_of-i.ensures) in
-    let l = c.loop-left in ((l.invariant.0.0, l.invariant.0.1.good _ (known)), in-range)
+pub apply-requires : goal.apply-requires
+apply-requires c =
+    let l = c.loop in
+    let o = c.in_ok-o in
+    let b : AreBytes c.args.s.now = λ i. (c.type_inv.s i).fits in
+    let known = machine_has c.args.s.now l.at c.decode.result o.o o.next c.register_of-i.result b c.decode.ensures o.was c.register_of-i.ensures in
+    ((l.invariant.0.0, l.invariant.0.1.good _ known), read_in_range c.args.s.now l.at c.decode.result o.o o.next b c.decode.ensures o.was)
 
-pub returns-in-Because : goal.returns-in-Because
-returns-in-Because c =
-    let on-machine : let l = c.loop-left in let o = c.in-Operation.o in let q = c.apply-q.result in (q.why ≡ why_not o (record { registers = l.registers })) × (put (record { registers = l.registers }) c.register_of-i.result q.register ≡ configured o (record { registers = l.registers })) = let l = c.loop-left in
-    configured-by _ (record { registers = l.registers }) _ _ _ c.register_of-i.ensures c.apply-q.ensures.0 c.apply-q.ensures.1 in
-    let l = c.loop-left in (
-      sym (ops-because l.left _ l.at (record { registers = l.registers }) c.loop-left-test.true c.if-s-at.false _ _ _ (sym c.decode.ensures ∙ c.in-Operation.is)
-          (sym c.turn_of-turn.ensures ∙ c.in_default.is) (sym (on-machine).0 ∙ c.in-Because.is))
-          ∙ l.invariant.2,
-      l.invariant.1,
-    )
+pub returns-in-Err : goal.returns-in-Err
+returns-in-Err c =
+    let l = c.loop in
+    let o = c.in_ok-o.o in
+    sym (ops-because _ _ l.at l.machine (omega (arith, c.loop-test.true)) c.if-s-at.false _ _ _ (sym c.decode.ensures ∙ c.in_ok-o.was) (configures o c.in_default.not-Run)
+    ((configured-by _ l.machine _ _ c.register_of-i.ensures c.apply.ensures).0 _ c.in-Err.is))
+    ∙ l.invariant.1
 
-pub offset_bounds-registers-i-in-Operation : goal.offset_bounds-registers-i-in-Operation
-offset_bounds-registers-i-in-Operation c =
-    let in-range : operation_in_range c.in-Operation.o ≡ true = (operation-read _ _ _ _ (λ i. (c.shared_slice_known-1.given i).fits) (sym c.decode.ensures ∙ c.in-Operation.is)).range in
-    let known : c.register_of-i.result < 32 = omega (arith, in-machine _ (in-range), c.register_of-i.ensures) in
-    omega (arith, known)
+pub offset_bounds-machine-i-in-Ok : goal.offset_bounds-machine-i-in-Ok
+offset_bounds-machine-i-in-Ok c =
+    let o = c.in_ok-o in
+    omega (arith, machine_has c.args.s.now c.loop.at c.decode.result o.o o.next c.register_of-i.result (λ i. (c.type_inv.s i).fits) c.decode.ensures o.was c.register_of-i.ensures)
 
-pub bounds-registers-i-in-Operation : goal.bounds-registers-i-in-Operation
-bounds-registers-i-in-Operation c =
-    let in-range : operation_in_range c.in-Operation.o ≡ true = (operation-read _ _ _ _ (λ i. (c.shared_slice_known-1.given i).fits) (sym c.decode.ensures ∙ c.in-Operation.is)).range in
-    let known : c.register_of-i.result < 32 = omega (arith, in-machine _ (in-range), c.register_of-i.ensures) in
-    known
+pub bounds-machine-i-in-Ok : goal.bounds-machine-i-in-Ok
+bounds-machine-i-in-Ok c =
+    let o = c.in_ok-o in
+    machine_has c.args.s.now c.loop.at c.decode.result o.o o.next c.register_of-i.result (λ i. (c.type_inv.s i).fits) c.decode.ensures o.was c.register_of-i.ensures
 
-pub loop-left-smaller : goal.loop-left-smaller
-loop-left-smaller c =
-    omega (arith, c.loop-left-test.true)
-
-pub loop-left-preserved : goal.loop-left-preserved
-loop-left-preserved c =
-    let in-range : operation_in_range c.in-Operation.o ≡ true = (operation-read _ _ _ _ (λ i. (c.shared_slice_known-1.given i).fits) (sym c.decode.ensures ∙ c.in-Operation.is)).range in
-    let on-machine : let l = c.loop-left in let o = c.in-Operation.o in let q = c.apply-q.result in (q.why ≡ why_not o (record { registers = l.registers })) × (put (record { registers = l.registers }) c.register_of-i.result q.register ≡ configured o (record { registers = l.registers })) = let l = c.loop-left in
-    configured-by _ (record { registers = l.registers }) _ _ _ c.register_of-i.ensures c.apply-q.ensures.0 c.apply-q.ensures.1 in
-    let l = c.loop-left in
-    let q = on-machine in
-    let g = configured-good l.invariant.0.0 _ (record { registers = l.registers }) l.invariant.0.1 (in-range) in (
-      (l.invariant.0.0, subst (AllGood l.invariant.0.0) (sym q.1) g),
-      l.invariant.1,
-      ap (operations_from (l.left - 1) _ _) q.1
-          ∙ sym (ops-next l.left _ l.at (record { registers = l.registers }) c.loop-left-test.true c.if-s-at.false _ _ (sym c.decode.ensures ∙ c.in-Operation.is)
-          (sym c.turn_of-turn.ensures ∙ c.in_default.is) (sym q.0 ∙ c.in_default-why.is))
-          ∙ l.invariant.2,
+pub loop-preserved : goal.loop-preserved
+loop-preserved c =
+    let l = c.loop in
+    let o = c.in_ok-o.o in
+    let in-range = read_in_range c.args.s.now l.at c.decode.result o c.in_ok-o.next (λ i. (c.type_inv.s i).fits) c.decode.ensures c.in_ok-o.was in
+    let on-machine : (why_not o l.machine ≡ Ok tt) × (put l.machine c.register_of-i.result c.in-Ok.register ≡ configured o l.machine) =
+    (configured-by _ l.machine _ _ c.register_of-i.ensures c.apply.ensures).1 _ c.in-Ok.is in
+    let fewer : c.args.most - (l.counter + 1) ≡ c.args.most - l.counter - 1 = omega arith in (
+      (l.invariant.0.0, subst (AllGood l.invariant.0.0) (sym on-machine.1) (configured-good l.invariant.0.0 _ l.machine l.invariant.0.1 in-range)),
+      (λ i. operations_from (fewer i) c.args.s.now c.in_ok-o.next.at (on-machine.1 i))
+          ∙ sym (ops-next _ _ l.at l.machine (omega (arith, c.loop-test.true)) c.if-s-at.false _ _ (sym c.decode.ensures ∙ c.in_ok-o.was) (configures o c.in_default.not-Run) on-machine.0)
+          ∙ l.invariant.1,
     )
 
 pub returns : goal.returns
 returns c =
-    let l = c.loop-left in
-    (sym (ops-none l.left _ l.at (record { registers = l.registers }) c.loop-left-test.false) ∙ l.invariant.2, l.invariant.1)
+    let l = c.loop in
+    sym (ops-none _ _ l.at l.machine (omega (arith, c.loop-test.false))) ∙ l.invariant.1

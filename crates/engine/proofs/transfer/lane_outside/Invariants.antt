@@ -4,7 +4,5 @@ use Rattle.engine.specs.Stretches.{progression, lane_without}
 use Rattle.engine.proofs.transfer.lane_outside.Given as goal
 
 abbrev pub invariant-loop-k : goal.invariant-loop-k
-invariant-loop-k l = (l.k ≤ l.n) × (nat_abs l.a.0 ≤ 2 ^ 55 + l.k * 2 ^ 51) × (lane_without l.len l.width (progression l.initial.a.0 l.step.0 l.n) ≡ l.k + lane_without l.len l.width (progression l.a.0 l.step.0 (l.n - l.k)))
-
-abbrev pub decreases-loop-k : goal.decreases-loop-k
-decreases-loop-k l = l.n - l.k
+invariant-loop-k l = (nat_abs l.a.0 ≤ 2 ^ 55 + l.k * 2 ^ 51)
+    × (lane_without l.len l.width (progression l.initial.a.0 l.part.step.0 l.part.count) ≡ l.k + lane_without l.len l.width (progression l.a.0 l.part.step.0 (l.part.count - l.k)))

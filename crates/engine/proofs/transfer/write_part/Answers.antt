@@ -1,111 +1,73 @@
 -- `transfer::write_part` meets its contract: elements side by side take the lanes' bytes; of others, after k turns the first k lanes are written.
-use Rattle.std.proofs.Common.{◌≡◌, ◌+◌, ◌*◌, ◌≤◌, true, [], length, get_or, take, drop, pos, ◌+ℤ◌, sym, refl, ap, ◌∙◌, add-mul, arith, rules}
-use lib.Signed.{non_neg}
-use lib.Seq.{sets, length-sets}
-use Rattle.engine.specs.Loops.{natural}
+use Rattle.std.proofs.Common.{◌*◌, [], length, take, drop, ◌+ℤ◌, sym, ap, ◌∙◌, add-mul, arith}
+use Rattle.std.proofs.lemmas.List.Edits.{sets}
 use Rattle.engine.specs.Addresses.{inside}
-use Rattle.engine.specs.Memory.{lanes_from}
 use Rattle.engine.specs.Stretches.{progression}
-use Rattle.engine.proofs.LaneCounts.{few-lanes, many}
-use Rattle.engine.proofs.StretchSteps.{none_written, length-progression, row_at, further-none, further-more, within-at, stored-none, stored-further, all-stored-further, row-place, row_room, row-written-from}
+use Rattle.engine.proofs.LaneCounts.{few-lanes}
+use Rattle.engine.proofs.StretchSteps.{length-progression, row_at, further-none, further-more, within-row, row-place, row_room, row-written-from, stored-none, stored-further, all-stored-further}
 use Rattle.engine.proofs.PartSteps.{lane-room-at}
 use Rattle.engine.proofs.transfer.write_part.Goals as goal
 
-pub returns-then-n-eq0 : goal.returns-then-n-eq0
-returns-then-n-eq0 c =
-    let a = c.args in
-    sym (none_written a.memory.now a.width a.start.0 a.step.0 a.n (lanes_from a.lanes.now a.width (a.at * a.width) a.n) c.if-n-eq0.true)
-
 pub place-requires : goal.place-requires
 place-requires c =
-    let some : 1 ≤ c.args.n = omega (arith, c.if-n-eq0.false) in
-    let beside : (non_neg c.args.start.0 ≡ true) × (natural c.args.start.0 + c.args.n * c.args.width ≤ length c.args.memory.now) = let s = c in
-    let a = s.args in
-    let m = length a.memory.now in
-    let e = c.adjacent.ensures c.if-adjacent.true in
-    (row-place m a.width a.start.0 a.step.0 a.n (some) e s.requires.n_value, row_room m a.width a.start.0 a.step.0 a.n (some) e s.requires.n_value) in
-    (beside).0
+    let a = c.args in
+    row-place (length a.memory.now) a.width a.part.now.start.0 a.part.now.step.0 a.part.now.count (omega arith) (c.adjacent.ensures c.if-adjacent.true) c.requires.inside
 
 pub copy-requires : goal.copy-requires
 copy-requires c =
-    let some : 1 ≤ c.args.n = omega (arith, c.if-n-eq0.false) in
-    let beside : (non_neg c.args.start.0 ≡ true) × (natural c.args.start.0 + c.args.n * c.args.width ≤ length c.args.memory.now) = let s = c in
-    let a = s.args in
-    let m = length a.memory.now in
-    let e = c.adjacent.ensures c.if-adjacent.true in
-    (row-place m a.width a.start.0 a.step.0 a.n (some) e s.requires.n_value, row_room m a.width a.start.0 a.step.0 a.n (some) e s.requires.n_value) in
-    let m : length c.args.lanes.now ≡ 64 = search rules in
-    (omega arith, omega (arith, c.place.ensures.0, (beside).1))
+    let a = c.args in
+    let room = row_room (length a.memory.now) a.width a.part.now.start.0 a.part.now.step.0 a.part.now.count (omega arith) (c.adjacent.ensures c.if-adjacent.true) c.requires.inside in
+    (omega (arith, c.place.ensures.0, room), omega (arith, c.place.ensures.0, room))
 
 pub returns-then-adjacent : goal.returns-then-adjacent
 returns-then-adjacent c =
-    let some : 1 ≤ c.args.n = omega (arith, c.if-n-eq0.false) in
-    let s = c in
-    let a = s.args in
+    let a = c.args in
     let m = a.memory.now in
-    let d = c in
-    let n : length a.lanes.now ≡ 64 = search rules in
     c.copy.ensures.0
-    ∙ ap (λ i. sets m i (take (a.n * a.width) (drop (a.at * a.width) a.lanes.now))) c.place.ensures.0
-    ∙ row-written-from (length m) a.width a.start.0 a.step.0 a.n (some) (d.adjacent.ensures d.if-adjacent.true) s.requires.n_value m a.lanes.now (a.at * a.width) (c.copy.ensures.1 (many a.n a.width (some) s.requires.le_width.0.0)) (omega arith)
+    ∙ ap (λ i. sets m i (take (a.part.now.count * a.width) (drop (a.at * a.width) a.lanes.now))) c.place.ensures.0
+    ∙ row-written-from (length m) a.width a.part.now.start.0 a.part.now.step.0 a.part.now.count (omega arith) (c.adjacent.ensures c.if-adjacent.true) c.requires.inside m a.lanes.now (a.at * a.width) c.fits-lanes (omega arith)
 
 pub loop-k-init : goal.loop-k-init
 loop-k-init c =
-    let s = c in
-    let a = s.args in (
-      omega arith,
-      few-lanes a.n a.width s.requires.le_width.0.0 (omega arith),
-      sym (further-none a.start.0 a.step.0),
-      s.requires.start_bound.0,
-      refl,
-      sym (stored-none a.memory.now a.width (progression a.start.0 a.step.0 a.n) []),
-    )
+    let a = c.args in record {
+      address = sym (further-none a.part.now.start.0 a.part.now.step.0);
+      bounded = a.part.now.near.0;
+      written = sym (stored-none a.memory.now a.width (progression a.part.now.start.0 a.part.now.step.0 a.part.now.count) []);
+    }
 
 pub overflow_add-at : goal.overflow_add-at
 overflow_add-at c =
-    let s = c in
-    let f : s.args.at ≤ 64 = few-lanes s.args.at s.args.width s.requires.le_width.0.0 (omega arith) in
-    omega arith
+    omega (arith, few-lanes c.args.at c.args.width c.requires.room.0.0 (omega arith))
 
 pub write_lane-requires : goal.write_lane-requires
 write_lane-requires c =
-    let found : c.loop-k.a.0 ≡ get_or (progression c.args.start.0 c.args.step.0 c.args.n) c.loop-k.k (pos 0) = let a = c.args in
-    c.loop-k.invariant.2 ∙ sym (row_at a.start.0 a.step.0 a.n c.loop-k.k (omega arith)) in
-    let s = c in
-    let a = s.args in
+    let a = c.args in
     let l = c.loop-k in (
-      lane-room-at a.at l.k a.n a.width 64 (omega arith) s.requires.le_width.1,
+      lane-room-at a.at l.k a.part.now.count a.width 64 (omega arith) c.requires.room.1,
       (
-        s.requires.le_width.0.1,
-        ap (λ len. inside len a.width l.a.0) l.invariant.4
-            ∙ ap (inside (length a.memory.now) a.width) (found)
-            ∙ within-at (length a.memory.now) a.width (progression a.start.0 a.step.0 a.n) l.k s.requires.n_value (omega (arith, length-progression a.start.0 a.step.0 a.n)),
+        c.requires.room.0.1,
+        ap (λ len. inside len a.width l.a.0) l.auto.memory ∙ within-row (length a.memory.now) a.width a.part.now.start.0 a.part.now.step.0 a.part.now.count l.k c.loop-k-test.true l.invariant.address c.requires.inside,
       ),
     )
 
-pub plus-a-requires : goal.plus-a-requires
-plus-a-requires c =
-    (omega arith, omega arith)
-
 pub loop-k-preserved : goal.loop-k-preserved
 loop-k-preserved c =
-    let found : c.loop-k.a.0 ≡ get_or (progression c.args.start.0 c.args.step.0 c.args.n) c.loop-k.k (pos 0) = let a = c.args in
-    c.loop-k.invariant.2 ∙ sym (row_at a.start.0 a.step.0 a.n c.loop-k.k (omega arith)) in
-    let s = c in
-    let a = s.args in
+    let a = c.args in
     let l = c.loop-k in
-    let row = progression a.start.0 a.step.0 a.n in
-    let e = c.write_lane.ensures in (
-      omega arith,
-      omega arith,
-      c.plus-a.ensures.exact ∙ ap (λ z. z +ℤ a.step.0) l.invariant.2 ∙ further-more a.start.0 a.step.0 l.k,
-      omega (arith, c.plus-a.ensures.most, s.requires.start_bound.1),
-      ap length e ∙ simp length-sets l.invariant.4,
-      stored-further a.memory.now a.width row a.lanes.now (a.at * a.width) a.n l.k (length-progression a.start.0 a.step.0 a.n) (omega arith) (found) (add-mul a.at l.k a.width) l.invariant.5 e,
-    )
+    let row = progression a.part.now.start.0 a.part.now.step.0 a.part.now.count in record {
+      address = c.plus-a.ensures.exact ∙ ap (λ z. z +ℤ a.part.now.step.0) l.invariant.address ∙ further-more a.part.now.start.0 a.part.now.step.0 l.k;
+      bounded = omega (arith, c.plus-a.ensures.most, l.invariant.bounded, a.part.now.near.1);
+      written =
+          stored-further a.memory.now a.width row a.lanes.now (a.at * a.width) a.part.now.count l.k (length-progression a.part.now.start.0 a.part.now.step.0 a.part.now.count) c.loop-k-test.true
+          (l.invariant.address ∙ sym (row_at a.part.now.start.0 a.part.now.step.0 a.part.now.count l.k c.loop-k-test.true))
+          (add-mul a.at l.k a.width)
+          l.invariant.written
+          c.write_lane.ensures;
+    }
 
 pub returns : goal.returns
 returns c =
     let a = c.args in
     let l = c.loop-k in
-    l.invariant.5 ∙ all-stored-further a.memory.now a.width (progression a.start.0 a.step.0 a.n) a.lanes.now (a.at * a.width) a.n l.k (length-progression a.start.0 a.step.0 a.n) (omega arith)
+    l.invariant.written
+    ∙ all-stored-further a.memory.now a.width (progression a.part.now.start.0 a.part.now.step.0 a.part.now.count) a.lanes.now (a.at * a.width) a.part.now.count l.k (length-progression a.part.now.start.0 a.part.now.step.0 a.part.now.count) (omega arith)

@@ -1,18 +1,13 @@
 -- `walk::enter` meets its contract: from zeros on, the search finds the first element of the pass; if there is none, the pass stops there.
-use Rattle.std.proofs.Common.{◌≡◌, ℕ, suc, ◌+◌, ◌-◌, ◌≤◌, true, cond, not, List, ◌++◌, length, get_or, drop, replicate, sym, refl, ap, ◌∙◌, subst, arith, length-append, length-drop, drop_at}
+use Rattle.std.proofs.Common.{◌≡◌, ℕ, suc, ◌+◌, ◌-◌, ◌≤◌, true, cond, not, List, ◌++◌, length, get_or, drop, replicate, sym, ap, ◌∙◌, subst, arith, length-append, length-drop, drop_at}
 use lib.ListN.{length-replicate}
 use Rattle.engine.specs.Loops.{size_at}
 use Rattle.engine.specs.Chunks.{pass_stops}
-use Rattle.engine.specs.Rows.{shape_in}
 use Rattle.engine.specs.BoundLaws.{Under, under-small}
 use Rattle.engine.specs.Walk.{Comes}
 use Rattle.engine.specs.StopLaws.{under-zeros}
 use Rattle.engine.proofs.Found.{entered}
 use Rattle.engine.proofs.walk.enter.Goals as goal
-
-pub cleared-start-requires : goal.cleared-start-requires
-cleared-start-requires c =
-    omega (arith, c.requires.accepted.0.ranged.dims)
 
 -- the indices with those of the pass 0
 long : (n : ℕ) (v from : List ℕ) → v ≡ replicate n 0 ++ drop n from → length from ≡ 7 → n ≤ 7 → length v ≡ 7
@@ -21,7 +16,7 @@ long n v from e l h = omega (arith, ap length e, length-append (replicate n 0) (
 pub seek-requires : goal.seek-requires
 seek-requires c =
     let a = c in
-    let s = shape_in a.args.shape.now in
+    let s = a.args.shape.now in
     let n = a.args.c in
     let e = c.cleared-start.ensures in
     let o = drop n a.args.index.now in
@@ -38,12 +33,12 @@ seek-requires c =
 
 pub returns-then-seek : goal.returns-then-seek
 returns-then-seek c =
-    let pass : Comes (shape_in c.args.shape.now) c.args.c (pass_stops (size_at (shape_in c.args.shape.now)) c.args.c (drop c.args.c c.args.index.now)) true (not c.seek.result) (cond c.seek.result c.seek.new.index c.cleared-start.result) = let a = c in
-    entered (shape_in a.args.shape.now) a.args.c a.requires.accepted.1.0 (drop a.args.c a.args.index.now) c.cleared-start.result c.seek.new.index _ c.seek.result c.cleared-start.ensures c.seek.ensures.index_value c.seek.ensures.searched.outside in
-    record { comes = rw c.if-seek.true at (pass); found_value = refl }
+    let pass : Comes c.args.shape.now c.args.c (pass_stops (size_at c.args.shape.now) c.args.c (drop c.args.c c.args.index.now)) true (not c.seek.result) (cond c.seek.result c.seek.new.index c.cleared-start.result) = let a = c in
+    entered a.args.shape.now a.args.c a.requires.accepted.1.0 (drop a.args.c a.args.index.now) c.cleared-start.result c.seek.new.index _ c.seek.result c.cleared-start.ensures c.seek.ensures.index_value c.seek.ensures.searched.outside in
+    rw c.if-seek.true at (pass)
 
 pub returns : goal.returns
 returns c =
-    let pass : Comes (shape_in c.args.shape.now) c.args.c (pass_stops (size_at (shape_in c.args.shape.now)) c.args.c (drop c.args.c c.args.index.now)) true (not c.seek.result) (cond c.seek.result c.seek.new.index c.cleared-start.result) = let a = c in
-    entered (shape_in a.args.shape.now) a.args.c a.requires.accepted.1.0 (drop a.args.c a.args.index.now) c.cleared-start.result c.seek.new.index _ c.seek.result c.cleared-start.ensures c.seek.ensures.index_value c.seek.ensures.searched.outside in
-    record { comes = rw c.if-seek.false at (pass); found_value = refl }
+    let pass : Comes c.args.shape.now c.args.c (pass_stops (size_at c.args.shape.now) c.args.c (drop c.args.c c.args.index.now)) true (not c.seek.result) (cond c.seek.result c.seek.new.index c.cleared-start.result) = let a = c in
+    entered a.args.shape.now a.args.c a.requires.accepted.1.0 (drop a.args.c a.args.index.now) c.cleared-start.result c.seek.new.index _ c.seek.result c.cleared-start.ensures c.seek.ensures.index_value c.seek.ensures.searched.outside in
+    rw c.if-seek.false at (pass)

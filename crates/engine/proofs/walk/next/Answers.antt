@@ -1,7 +1,6 @@
 -- `walk::next` meets its contract: with the innermost index one further, what comes after the element is to come.
 use Rattle.std.proofs.Common.{◌≡◌, ℕ, suc, ◌+◌, ◌≤◌, [], length, get_or, sym, ap, ◌∙◌, arith, length-set, drop-set-lt}
 use Rattle.engine.specs.Loops.{size_at, elements}
-use Rattle.engine.specs.Rows.{shape_in}
 use Rattle.engine.specs.Walk.{after}
 use Rattle.engine.specs.WalkLaws.{at_after}
 use Rattle.engine.specs.IndexLaws.{roomy, walk-next, element-under, element-small, index-length}
@@ -11,16 +10,16 @@ use Rattle.engine.proofs.walk.next.Goals as goal
 
 pub overflow_add-index : goal.overflow_add-index
 overflow_add-index c =
-    let small : (k : ℕ) → get_or c.args.index.now k 0 ≤ 4095 = element-small (shape_in c.args.shape.now) c.requires.0 c.args.index.now c.requires.1 in
+    let small : (k : ℕ) → get_or c.args.index.now k 0 ≤ 4095 = element-small c.args.shape.now c.requires.0 c.args.index.now c.requires.1 in
     omega (arith, small 0)
 
 pub seek-requires : goal.seek-requires
 seek-requires c =
-    let small : (k : ℕ) → get_or c.args.index.now k 0 ≤ 4095 = element-small (shape_in c.args.shape.now) c.requires.0 c.args.index.now c.requires.1 in
-    let long : length c.args.index.now ≡ 7 = ap length c.requires.1.here ∙ index-length (get_or (elements (shape_in c.args.shape.now)) c.requires.1.position []) in
+    let small : (k : ℕ) → get_or c.args.index.now k 0 ≤ 4095 = element-small c.args.shape.now c.requires.0 c.args.index.now c.requires.1 in
+    let long : length c.args.index.now ≡ 7 = ap length c.requires.1.here ∙ index-length (get_or (elements c.args.shape.now) c.requires.1.position []) in
     let a = c in
     let i = a.args.index.now in
-    let s = shape_in a.args.shape.now in
+    let s = a.args.shape.now in
     let x = get_or i 0 0 + 1 in record {
       accepted = (a.requires.0, (omega arith, a.requires.0.some), (omega arith, simp length-set (long)));
       by_index = (
@@ -31,10 +30,10 @@ seek-requires c =
 
 pub returns : goal.returns
 returns c =
-    let long : length c.args.index.now ≡ 7 = ap length c.requires.1.here ∙ index-length (get_or (elements (shape_in c.args.shape.now)) c.requires.1.position []) in
+    let long : length c.args.index.now ≡ 7 = ap length c.requires.1.here ∙ index-length (get_or (elements c.args.shape.now) c.requires.1.position []) in
     λ k q e.
     let a = c in
-    let s = shape_in a.args.shape.now in
+    let s = a.args.shape.now in
     let r = roomy s a.requires.0 in
     stands s (suc k) c.seek.result c.seek.new.index _
     (sym (walk-next s r k q)

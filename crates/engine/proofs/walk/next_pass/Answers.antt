@@ -2,7 +2,6 @@
 use Rattle.std.proofs.Common.{◌≡◌, suc, ◌+◌, ◌≤◌, map, get_or, drop, refl, ap, arith, length-set, get_or-drop, drop-set-lt, le-ltb}
 use Rattle.engine.specs.Loops.{size_at, join}
 use Rattle.engine.specs.Chunks.{pass_stops}
-use Rattle.engine.specs.Rows.{shape_in}
 use Rattle.engine.specs.BoundLaws.{under-small}
 use Rattle.engine.specs.Walk.{passes_after}
 use Rattle.engine.specs.StopWalk.{passes-next}
@@ -13,54 +12,22 @@ use Rattle.engine.proofs.walk.next_pass.Goals as goal
 pub returns-then-dims-c : goal.returns-then-dims-c
 returns-then-dims-c c =
     let a = c.args in
-    let s = shape_in a.shape.now in
+    let s = a.shape.now in
     to_none s a.c (passes_after (size_at s) a.c s.dims (drop a.c a.index.now)) _ _ refl (le-ltb a.c s.dims c.if-dims-c.true) _ _
-
-pub offset_bounds-index-c : goal.offset_bounds-index-c
-offset_bounds-index-c c =
-    let most : (shape_in c.args.shape.now).dims ≤ 7 = c.requires.accepted.0.ranged.dims in
-    omega (arith, most)
-
-pub bounds-index-c : goal.bounds-index-c
-bounds-index-c c =
-    let most : (shape_in c.args.shape.now).dims ≤ 7 = c.requires.accepted.0.ranged.dims in
-    omega (arith, most)
-
-pub overflow_add-index : goal.overflow_add-index
-overflow_add-index c =
-    let small : get_or c.args.index.now c.args.c 0 ≤ 4095 = let a = c.args in
-    let z : a.c + 0 ≡ a.c = omega arith in
-    omega (
-      arith,
-      get_or-drop a.c a.index.now 0 0,
-      ap (λ j. get_or a.index.now j 0) z,
-      under-small (shape_in a.shape.now) c.requires.accepted.0.bounded a.c c.requires.accepted.1.1 (drop a.c a.index.now) c.requires.by_index.1 0,
-    ) in
-    omega (arith, small)
-
-pub offset_bounds-index-c-2 : goal.offset_bounds-index-c-2
-offset_bounds-index-c-2 c =
-    let most : (shape_in c.args.shape.now).dims ≤ 7 = c.requires.accepted.0.ranged.dims in
-    omega (arith, most)
-
-pub bounds-index-c-2 : goal.bounds-index-c-2
-bounds-index-c-2 c =
-    let most : (shape_in c.args.shape.now).dims ≤ 7 = c.requires.accepted.0.ranged.dims in
-    omega (arith, most)
 
 pub to_pass-requires : goal.to_pass-requires
 to_pass-requires c =
-    let most : (shape_in c.args.shape.now).dims ≤ 7 = c.requires.accepted.0.ranged.dims in
+    let most : c.args.shape.now.dims ≤ 7 = c.requires.accepted.0.ranged.dims in
     let small : get_or c.args.index.now c.args.c 0 ≤ 4095 = let a = c.args in
     let z : a.c + 0 ≡ a.c = omega arith in
     omega (
       arith,
       get_or-drop a.c a.index.now 0 0,
       ap (λ j. get_or a.index.now j 0) z,
-      under-small (shape_in a.shape.now) c.requires.accepted.0.bounded a.c c.requires.accepted.1.1 (drop a.c a.index.now) c.requires.by_index.1 0,
+      under-small a.shape.now c.requires.accepted.0.bounded a.c c.requires.accepted.1.1 (drop a.c a.index.now) c.requires.by_index.1 0,
     ) in
     let a = c in
-    let s = shape_in a.args.shape.now in
+    let s = a.args.shape.now in
     let v = a.args.index.now in
     let n = a.args.c in
     let x = get_or v n 0 + 1 in record {
@@ -73,9 +40,9 @@ to_pass-requires c =
 
 pub returns : goal.returns
 returns c =
-    let most : (shape_in c.args.shape.now).dims ≤ 7 = c.requires.accepted.0.ranged.dims in
+    let most : c.args.shape.now.dims ≤ 7 = c.requires.accepted.0.ranged.dims in
     let a = c in
-    let s = shape_in a.args.shape.now in
+    let s = a.args.shape.now in
     let v = a.args.index.now in
     let n = a.args.c in
     comes-same s n

@@ -1,187 +1,155 @@
 -- `walk::next_stop` meets its contract: after a stop come the others of its pass, then those of the later passes.
-use Rattle.std.proofs.Common.{◌≡◌, ℕ, suc, ◌+◌, ◌<◌, ◌≤◌, Bool, true, false, cond, List, [], ◌∷◌, ◌++◌, map, length, get_or, drop, sym, refl, ap, ◌∙◌, subst, arith, length-set, drop-set-lt}
+use Rattle.std.proofs.Common.{◌≡◌, ℕ, suc, ◌+◌, ◌<◌, Bool, true, false, cond, List, [], ◌∷◌, ◌++◌, map, length, get_or, drop, set, sym, refl, ap, ◌∙◌, subst, arith, length-set, drop-set-lt}
+use Rattle.std.specs.Option.{is_some}
 use Rattle.engine.specs.Loops.{size_at, join, elements}
 use Rattle.engine.specs.Chunks.{pass_stops, stops}
 use Rattle.engine.specs.Registers.{index_of}
-use Rattle.engine.specs.Rows.{shape_in}
 use Rattle.engine.specs.BoundLaws.{Under}
-use Rattle.engine.specs.Walk.{after, bare, passes_after}
+use Rattle.engine.specs.Walk.{Stop, at, is_empty, comes_empty, after, bare, passes_after}
 use Rattle.engine.specs.WalkLaws.{at_after}
 use Rattle.engine.specs.IndexLaws.{index-length}
 use Rattle.engine.specs.StopLaws.{stops-uncoupled}
 use Rattle.engine.specs.StopWalk.{Passing, passing, stops-after, nothing-bare, here-under, here-small}
 use Rattle.engine.specs.declared.stream.Shape.{Shape}
 use Rattle.engine.proofs.Turns.{all_small, under-from}
-use Rattle.engine.proofs.Found.{arrives-element, element-here, arrives, comes-same, uncoupled-in, coupled-in}
+use Rattle.engine.proofs.Found.{arrives-element, arrives-some, element-here, arrives, comes-same}
 use Rattle.engine.proofs.walk.next_stop.Goals as goal
 
-pub next-found-requires : goal.next-found-requires
-next-found-requires c =
-    let shape_at : Shape = shape_in c.args.shape.now in
-    let dimension : ℕ = get_or c.args.shape.now 50 0 in
-    let from : List ℕ = c.args.index.now in
-    let a = c in
-    (a.requires.0, element-here (shape_at) (uncoupled-in (get_or a.args.shape.now 49 0) (dimension) c.if-shape-eq0.true) (from) a.args.empty a.requires.1)
+module _ (s : Shape) (from : List ℕ) (empty : Bool) (t : Stop s from empty) where
+  stop_long : length from ≡ 7
+  stop_long = ap length t.here ∙ index-length (get_or (stops s) t.position [])
 
-pub returns-then-shape-eq0 : goal.returns-then-shape-eq0
-returns-then-shape-eq0 c =
-    let shape_at : Shape = shape_in c.args.shape.now in
-    let dimension : ℕ = get_or c.args.shape.now 50 0 in
+  -- a stop is no element exactly if its pass holds none
+  told_by : (d : ℕ) → Passing s d → empty ≡ bare (size_at s) d (drop d from)
+  told_by d p =
+      t.told
+      ∙ nothing-bare s d p t.position t.below
+      ∙ ap (λ v. bare (size_at s) d (drop d v)) (sym t.here)
+
+  -- after the stop come the others of its pass, then the later passes
+  later : (d : ℕ) → Passing s d → (b : Bool) (l : List (List ℕ)) → empty ≡ b → cond b [] (after (size_at s) 0 d from) ≡ l
+      → (k : ℕ) → k < length (stops s) → from ≡ index_of (get_or (stops s) k [])
+      → map index_of (drop (suc k) (stops s)) ≡ l ++ join (map (pass_stops (size_at s) d) (passes_after (size_at s) d s.dims (drop d from)))
+  later d p b l y e k q i =
+      let behind : List (List ℕ) = join (map (pass_stops (size_at s) d) (passes_after (size_at s) d s.dims (drop d from))) in
+      stops-after s d p k q from i
+      ∙ ap (λ x. cond x [] (after (size_at s) 0 d from) ++ behind) (sym (told_by d p) ∙ y)
+      ∙ ap (λ m. m ++ behind) e
+
+  -- of its pass, a search of what comes after it says all
+  in_pass : (d : ℕ) (found b : Bool) (to : List ℕ)
+      → at (size_at s) 0 d 0 (set from 0 (get_or from 0 0 + 1)) ≡ cond found (to ∷ after (size_at s) 0 d to) [] → found ≡ b
+      → after (size_at s) 0 d from ≡ cond b (to ∷ after (size_at s) 0 d to) []
+  in_pass d found b to h y =
+      sym (at_after (size_at s) 0 d from (omega (arith, stop_long))) ∙ h ∙ ap (λ x. cond x (to ∷ after (size_at s) 0 d to) []) y
+
+pub next-requires : goal.next-requires
+next-requires c =
+    (c.requires.0, element-here c.args.shape.now c.in_default.is c.args.index.now (is_empty c.args.from) c.requires.1)
+
+pub returns-in_default : goal.returns-in_default
+returns-in_default c =
+    let s = c.args.shape.now in
+    let y = c.in_default.is in
+    let u : stops s ≡ elements s = stops-uncoupled s y in
     λ k q e.
-    let a = c in
-    let y = uncoupled-in (get_or a.args.shape.now 49 0) (dimension) c.if-shape-eq0.true in
-    let u : stops (shape_at) ≡ elements (shape_at) = stops-uncoupled (shape_at) y in
-    arrives-element (shape_at) y (suc k) c.next-found.result c.next-found.new.index
-    (c.next-found.ensures k (subst (λ l. k < length l) u q) (e ∙ ap (λ l. index_of (get_or l k [])) u))
+    arrives-some s (suc k) c.next.result c.then_some.result c.next.new.index c.then_some.ensures
+    (arrives-element s y (suc k) c.next.result c.next.new.index
+    (c.next.ensures k (subst (λ l. k < length l) u q) (e ∙ ap (λ l. index_of (get_or l k [])) u)))
 
 pub next_pass-requires : goal.next_pass-requires
 next_pass-requires c =
-    let shape_at : Shape = shape_in c.args.shape.now in
-    let dimension : ℕ = get_or c.args.shape.now 50 0 in
-    let from : List ℕ = c.args.index.now in
-    let under : Under (shape_at) 0 (from) = here-under (shape_at) c.requires.0 (from) c.args.empty c.requires.1 in
-    let small : (k : ℕ) → get_or (from) k 0 ≤ 4095 = here-small (shape_at) c.requires.0 (from) c.args.empty c.requires.1 in
-    let long : length (from) ≡ 7 = ap length c.requires.1.here ∙ index-length (get_or (stops (shape_at)) c.requires.1.position []) in
-    let coupled : Passing (shape_at) (dimension) = let a = c in
-    passing (shape_at) a.requires.0 (dimension) (coupled-in (get_or a.args.shape.now 49 0) (dimension) c.if-shape-eq0.false) in
-    let p = coupled in
-    let a = c in
-    record { accepted = (a.requires.0, (p.some, p.within), long); by_index = ((λ k. omega (arith, small k)), under-from (shape_at) (from) (under) (dimension) p.within) }
+    let s = c.args.shape.now in
+    let from = c.args.index.now in
+    let empty = is_empty c.args.from in
+    let a = c.requires.0 in
+    let t = c.requires.1 in
+    let small = here-small s a from empty t in
+    let p = passing s a c.in-Some.coupled c.in-Some.is in record {
+      accepted = (a, (p.some, p.within), stop_long s from empty t);
+      by_index = ((λ k. omega (arith, small k)), under-from s from (here-under s a from empty t) c.in-Some.coupled p.within);
+    }
 
-pub returns-then-empty : goal.returns-then-empty
-returns-then-empty c =
-    let shape_at : Shape = shape_in c.args.shape.now in
-    let dimension : ℕ = get_or c.args.shape.now 50 0 in
-    let from : List ℕ = c.args.index.now in
-    let coupled : Passing (shape_at) (dimension) = let a = c in
-    passing (shape_at) a.requires.0 (dimension) (coupled-in (get_or a.args.shape.now 49 0) (dimension) c.if-shape-eq0.false) in
-    let told : c.args.empty ≡ bare (size_at (shape_at)) (dimension) (drop (dimension) (from)) = let a = c in
-    let t = a.requires.1 in
-    t.told
-    ∙ nothing-bare (shape_at) (dimension) (coupled) t.position t.below
-    ∙ ap (λ v. bare (size_at (shape_at)) (dimension) (drop (dimension) v)) (sym t.here) in
-    let behind : List (List ℕ) = join (map (pass_stops (size_at (shape_at)) (dimension)) (passes_after (size_at (shape_at)) (dimension) shape_at.dims (drop (dimension) (from)))) in
-    let later : (b : Bool) (l : List (List ℕ)) → c.args.empty ≡ b → cond b [] (after (size_at (shape_at)) 0 (dimension) (from)) ≡ l → (k : ℕ) → k < length (stops (shape_at)) → from ≡ index_of (get_or (stops (shape_at)) k []) → map index_of (drop (suc k) (stops (shape_at))) ≡ l ++ behind = λ b l y e k q i. let a = c in
-    stops-after (shape_at) (dimension) (coupled) k q (from) i
-    ∙ ap (λ x. cond x [] (after (size_at (shape_at)) 0 (dimension) (from)) ++ behind) (sym (told) ∙ y)
-    ∙ ap (λ m. m ++ behind) e in
-    λ k q e.
-    let w = c in
-    let a = w in
+pub returns-in-EmptyPass : goal.returns-in-EmptyPass
+returns-in-EmptyPass c =
+    let s = c.args.shape.now in
+    let from = c.args.index.now in
+    let d = c.in-Some.coupled in
+    let p = passing s c.requires.0 d c.in-Some.is in
     let r = c.next_pass in
-    arrives (shape_at) (dimension) (coupled) (suc k) r.result.found r.result.empty r.new.index
-    (comes-same (shape_at) (dimension) (later true [] c.if-empty.true refl k q e) r.ensures)
+    λ k q e.
+    arrives s d p (suc k) (is_some r.result) (comes_empty r.result) r.new.index
+    (comes-same s d (later s from (is_empty c.args.from) c.requires.1 d p true [] (ap is_empty c.in-EmptyPass.is) refl k q e) r.ensures)
 
 pub overflow_add-index : goal.overflow_add-index
 overflow_add-index c =
-    let shape_at : Shape = shape_in c.args.shape.now in
-    let from : List ℕ = c.args.index.now in
-    let small : (k : ℕ) → get_or (from) k 0 ≤ 4095 = here-small (shape_at) c.requires.0 (from) c.args.empty c.requires.1 in
-    omega (arith, small 0)
+    omega (arith, here-small c.args.shape.now c.requires.0 c.args.index.now (is_empty c.args.from) c.requires.1 0)
 
 pub seek-requires : goal.seek-requires
 seek-requires c =
-    let shape_at : Shape = shape_in c.args.shape.now in
-    let dimension : ℕ = get_or c.args.shape.now 50 0 in
-    let from : List ℕ = c.args.index.now in
-    let under : Under (shape_at) 0 (from) = here-under (shape_at) c.requires.0 (from) c.args.empty c.requires.1 in
-    let small : (k : ℕ) → get_or (from) k 0 ≤ 4095 = here-small (shape_at) c.requires.0 (from) c.args.empty c.requires.1 in
-    let long : length (from) ≡ 7 = ap length c.requires.1.here ∙ index-length (get_or (stops (shape_at)) c.requires.1.position []) in
-    let coupled : Passing (shape_at) (dimension) = let a = c in
-    passing (shape_at) a.requires.0 (dimension) (coupled-in (get_or a.args.shape.now 49 0) (dimension) c.if-shape-eq0.false) in
-    let p = coupled in
-    let a = c in
-    let x = get_or (from) 0 0 + 1 in record {
-      accepted = (a.requires.0, (omega arith, p.some), (p.within, simp length-set (long)));
+    let s = c.args.shape.now in
+    let from = c.args.index.now in
+    let empty = is_empty c.args.from in
+    let a = c.requires.0 in
+    let t = c.requires.1 in
+    let long = stop_long s from empty t in
+    let small = here-small s a from empty t in
+    let p = passing s a c.in-Some.coupled c.in-Some.is in
+    let x = get_or from 0 0 + 1 in record {
+      accepted = (a, (omega arith, p.some), (p.within, simp length-set long));
       by_index = (
-        all_small (from) 0 x 4096 (omega (arith, long)) (omega (arith, small 0)) (λ k. omega (arith, small k)),
-        rw (drop-set-lt 1 (from) 0 x (omega arith)) (under-from (shape_at) (from) (under) 1 a.requires.0.some),
+        all_small from 0 x 4096 (omega (arith, long)) (omega (arith, small 0)) (λ k. omega (arith, small k)),
+        rw (drop-set-lt 1 from 0 x (omega arith)) (under-from s from (here-under s a from empty t) 1 a.some),
       );
     }
 
 pub returns-then-seek : goal.returns-then-seek
 returns-then-seek c =
-    let shape_at : Shape = shape_in c.args.shape.now in
-    let dimension : ℕ = get_or c.args.shape.now 50 0 in
-    let from : List ℕ = c.args.index.now in
-    let long : length (from) ≡ 7 = ap length c.requires.1.here ∙ index-length (get_or (stops (shape_at)) c.requires.1.position []) in
-    let coupled : Passing (shape_at) (dimension) = let a = c in
-    passing (shape_at) a.requires.0 (dimension) (coupled-in (get_or a.args.shape.now 49 0) (dimension) c.if-shape-eq0.false) in
-    let told : c.args.empty ≡ bare (size_at (shape_at)) (dimension) (drop (dimension) (from)) = let a = c in
-    let t = a.requires.1 in
-    t.told
-    ∙ nothing-bare (shape_at) (dimension) (coupled) t.position t.below
-    ∙ ap (λ v. bare (size_at (shape_at)) (dimension) (drop (dimension) v)) (sym t.here) in
-    let behind : List (List ℕ) = join (map (pass_stops (size_at (shape_at)) (dimension)) (passes_after (size_at (shape_at)) (dimension) shape_at.dims (drop (dimension) (from)))) in
-    let later : (b : Bool) (l : List (List ℕ)) → c.args.empty ≡ b → cond b [] (after (size_at (shape_at)) 0 (dimension) (from)) ≡ l → (k : ℕ) → k < length (stops (shape_at)) → from ≡ index_of (get_or (stops (shape_at)) k []) → map index_of (drop (suc k) (stops (shape_at))) ≡ l ++ behind = λ b l y e k q i. let a = c in
-    stops-after (shape_at) (dimension) (coupled) k q (from) i
-    ∙ ap (λ x. cond x [] (after (size_at (shape_at)) 0 (dimension) (from)) ++ behind) (sym (told) ∙ y)
-    ∙ ap (λ m. m ++ behind) e in
-    let in-pass : (b : Bool) → c.seek.result ≡ b → after (size_at (shape_at)) 0 (dimension) (from) ≡ cond b (c.seek.new.index ∷ after (size_at (shape_at)) 0 (dimension) c.seek.new.index) [] = λ b y. let a = c in
+    let s = c.args.shape.now in
+    let from = c.args.index.now in
+    let empty = is_empty c.args.from in
+    let t = c.requires.1 in
+    let d = c.in-Some.coupled in
+    let p = passing s c.requires.0 d c.in-Some.is in
     let to = c.seek.new.index in
-    sym (at_after (size_at (shape_at)) 0 (dimension) (from) (omega (arith, long)))
-    ∙ c.seek.ensures.index_value
-    ∙ ap (λ x. cond x (to ∷ after (size_at (shape_at)) 0 (dimension) to) []) y in
-    let outside : drop (dimension) c.seek.new.index ≡ drop (dimension) (from) = let a = c in
-    c.seek.ensures.searched.outside ∙ drop-set-lt (dimension) (from) 0 (get_or (from) 0 0 + 1) coupled.some in
+    let some = ap is_empty c.in_default-from.is in
+    let outside : drop d to ≡ drop d from = c.seek.ensures.searched.outside ∙ drop-set-lt d from 0 (get_or from 0 0 + 1) p.some in
     λ k q e.
-    let w = c in
-    let a = w in
-    let to = c.seek.new.index in
-    let some = c.if-empty.false in
-    arrives (shape_at) (dimension) (coupled) (suc k) true false to
+    arrives s d p (suc k) true false to
     (record {
       later = _;
-      list = later false (to ∷ after (size_at (shape_at)) 0 (dimension) to) some (in-pass true c.if-seek.true) k q e;
-      nothing = λ _. sym some ∙ told ∙ ap (bare (size_at (shape_at)) (dimension)) (sym (outside));
+      list = later s from empty t d p false (to ∷ after (size_at s) 0 d to) some (in_pass s from empty t d c.seek.result true to c.seek.ensures.index_value c.if-seek.true) k q e;
+      nothing = λ _. sym some ∙ told_by s from empty t d p ∙ ap (bare (size_at s) d) (sym outside);
     })
 
 pub next_pass-requires-2 : goal.next_pass-requires-2
 next_pass-requires-2 c =
-    let shape_at : Shape = shape_in c.args.shape.now in
-    let dimension : ℕ = get_or c.args.shape.now 50 0 in
-    let from : List ℕ = c.args.index.now in
-    let under : Under (shape_at) 0 (from) = here-under (shape_at) c.requires.0 (from) c.args.empty c.requires.1 in
-    let coupled : Passing (shape_at) (dimension) = let a = c in
-    passing (shape_at) a.requires.0 (dimension) (coupled-in (get_or a.args.shape.now 49 0) (dimension) c.if-shape-eq0.false) in
-    let outside : drop (dimension) c.seek.new.index ≡ drop (dimension) (from) = let a = c in
-    c.seek.ensures.searched.outside ∙ drop-set-lt (dimension) (from) 0 (get_or (from) 0 0 + 1) coupled.some in
-    let p = coupled in
-    let a = c in
-    let k = c.seek.ensures.searched in record { accepted = (a.requires.0, (p.some, p.within), k.long); by_index = (k.small, subst (Under (shape_at) (dimension)) (sym (outside)) (under-from (shape_at) (from) (under) (dimension) p.within)) }
+    let s = c.args.shape.now in
+    let from = c.args.index.now in
+    let d = c.in-Some.coupled in
+    let a = c.requires.0 in
+    let p = passing s a d c.in-Some.is in
+    let k = c.seek.ensures.searched in
+    let outside : drop d c.seek.new.index ≡ drop d from = k.outside ∙ drop-set-lt d from 0 (get_or from 0 0 + 1) p.some in record {
+      accepted = (a, (p.some, p.within), k.long);
+      by_index = (k.small, subst (Under s d) (sym outside) (under-from s from (here-under s a from (is_empty c.args.from) c.requires.1) d p.within));
+    }
 
 pub returns : goal.returns
 returns c =
-    let shape_at : Shape = shape_in c.args.shape.now in
-    let dimension : ℕ = get_or c.args.shape.now 50 0 in
-    let from : List ℕ = c.args.index.now in
-    let long : length (from) ≡ 7 = ap length c.requires.1.here ∙ index-length (get_or (stops (shape_at)) c.requires.1.position []) in
-    let coupled : Passing (shape_at) (dimension) = let a = c in
-    passing (shape_at) a.requires.0 (dimension) (coupled-in (get_or a.args.shape.now 49 0) (dimension) c.if-shape-eq0.false) in
-    let told : c.args.empty ≡ bare (size_at (shape_at)) (dimension) (drop (dimension) (from)) = let a = c in
-    let t = a.requires.1 in
-    t.told
-    ∙ nothing-bare (shape_at) (dimension) (coupled) t.position t.below
-    ∙ ap (λ v. bare (size_at (shape_at)) (dimension) (drop (dimension) v)) (sym t.here) in
-    let behind : List (List ℕ) = join (map (pass_stops (size_at (shape_at)) (dimension)) (passes_after (size_at (shape_at)) (dimension) shape_at.dims (drop (dimension) (from)))) in
-    let later : (b : Bool) (l : List (List ℕ)) → c.args.empty ≡ b → cond b [] (after (size_at (shape_at)) 0 (dimension) (from)) ≡ l → (k : ℕ) → k < length (stops (shape_at)) → from ≡ index_of (get_or (stops (shape_at)) k []) → map index_of (drop (suc k) (stops (shape_at))) ≡ l ++ behind = λ b l y e k q i. let a = c in
-    stops-after (shape_at) (dimension) (coupled) k q (from) i
-    ∙ ap (λ x. cond x [] (after (size_at (shape_at)) 0 (dimension) (from)) ++ behind) (sym (told) ∙ y)
-    ∙ ap (λ m. m ++ behind) e in
-    let in-pass : (b : Bool) → c.seek.result ≡ b → after (size_at (shape_at)) 0 (dimension) (from) ≡ cond b (c.seek.new.index ∷ after (size_at (shape_at)) 0 (dimension) c.seek.new.index) [] = λ b y. let a = c in
+    let s = c.args.shape.now in
+    let from = c.args.index.now in
+    let empty = is_empty c.args.from in
+    let t = c.requires.1 in
+    let d = c.in-Some.coupled in
+    let p = passing s c.requires.0 d c.in-Some.is in
     let to = c.seek.new.index in
-    sym (at_after (size_at (shape_at)) 0 (dimension) (from) (omega (arith, long)))
-    ∙ c.seek.ensures.index_value
-    ∙ ap (λ x. cond x (to ∷ after (size_at (shape_at)) 0 (dimension) to) []) y in
-    let outside : drop (dimension) c.seek.new.index ≡ drop (dimension) (from) = let a = c in
-    c.seek.ensures.searched.outside ∙ drop-set-lt (dimension) (from) 0 (get_or (from) 0 0 + 1) coupled.some in
-    λ k q e.
-    let w = c in
-    let a = w in
     let r = c.next_pass-2 in
-    let some = c.if-empty.false in
-    arrives (shape_at) (dimension) (coupled) (suc k) r.result.found r.result.empty r.new.index
-    (comes-same (shape_at) (dimension)
-    (later false [] some (in-pass false c.if-seek.false) k q e
-    ∙ ap (λ o. join (map (pass_stops (size_at (shape_at)) (dimension)) (passes_after (size_at (shape_at)) (dimension) shape_at.dims o))) (sym (outside)))
+    let some = ap is_empty c.in_default-from.is in
+    let outside : drop d to ≡ drop d from = c.seek.ensures.searched.outside ∙ drop-set-lt d from 0 (get_or from 0 0 + 1) p.some in
+    λ k q e.
+    arrives s d p (suc k) (is_some r.result) (comes_empty r.result) r.new.index
+    (comes-same s d
+    (later s from empty t d p false [] some (in_pass s from empty t d c.seek.result false to c.seek.ensures.index_value c.if-seek.false) k q e
+    ∙ ap (λ o. join (map (pass_stops (size_at s) d) (passes_after (size_at s) d s.dims o))) (sym outside))
     r.ensures)

@@ -1,19 +1,15 @@
 -- `read::read_access` meets its contract: the base in range, then the strides.
-use native.Mathlib.Omega.{arith}
-use mathlib.Core.Path.{sym, ◌∙◌}
-use Rattle.translator.specs.PartLaws.{access-none, access-over, access-next, in-range, over, stop-side}
+use Rattle.std.proofs.Common.{sym, ◌∙◌, ◌≤◌, arith}
+use Rattle.codec.proofs.Integers.{cast}
+use Rattle.translator.specs.PartLaws.{access-stays, access-goes}
+use Rattle.translator.proofs.Exits.{left}
 use Rattle.translator.proofs.read.read_access.Goals as goal
 
-pub returns-in_default : goal.returns-in_default
-returns-in_default c =
-    stop-side _ _ c.stopped_side.ensures (access-none _ _ _ _ (sym c.number.ensures ∙ c.in_default.is))
-
-pub returns-then-base-gt1048576 : goal.returns-then-base-gt1048576
-returns-then-base-gt1048576 c =
-    stop-side _ _ c.stopped_side-then-base-gt1048576.ensures
-    (access-over _ _ _ _ (sym c.number.ensures ∙ c.in-Value.is) (over 0 _ 1048576 (omega arith) c.if-base-gt1048576.true))
+pub returns-in_err-base : goal.returns-in_err-base
+returns-in_err-base c =
+    rw (left _ c.in_err-base.field-0.0 c.from_residual.ensures) (access-stays _ _ _ _ c.in_err-base.ensures)
 
 pub returns : goal.returns
 returns c =
-    rw c.with_base.ensures at c.read_strides.ensures
-    ∙ sym (access-next _ _ _ _ (sym c.number.ensures ∙ c.in-Value.is) (in-range 0 _ 1048576 (omega arith) c.if-base-gt1048576.false))
+    let small : c.in_ok-base.base ≤ 1048576 = grind arith in
+    rw (cast c.in_ok-base.base (omega arith)) at c.read_strides.ensures ∙ sym (access-goes _ _ _ _ c.in_ok-base.ensures)

@@ -1,57 +1,43 @@
 -- `read::read_rest` meets its contract: the loops, then each access, lead on to the next, or stop at a refusal.
-use mathlib.Core.Path.{◌≡◌, sym, ◌∙◌}
-use mathlib.Core.List.{◌++◌}
-use Rattle.translator.specs.Fields.{first, second, destination, access_fields, rest_fields, with_access}
-use Rattle.translator.specs.Reading.{Read, read_from}
-use Rattle.translator.specs.PartLaws.{same-refusal, then-stays, then-goes, with_side, side-read}
+use Rattle.std.proofs.Common.{sym, ◌∙◌, Ok, Err}
+use Rattle.translator.specs.Fields.{first, second, destination, access_fields, with_access}
+use Rattle.translator.specs.PartLaws.{then-stays, then-goes, side-read}
+use Rattle.translator.proofs.Exits.{left}
 use Rattle.translator.proofs.read.read_rest.Goals as goal
 
-pub returns-then-is_refused : goal.returns-then-is_refused
-returns-then-is_refused c =
-    then-stays _ _ _ _ _ c.read_loops-p.result c.read_loops-p.ensures (sym c.is_refused.ensures ∙ c.if-is_refused.true)
+pub returns-in_err-nest : goal.returns-in_err-nest
+returns-in_err-nest c =
+    rw (left _ c.in_err-nest.field-0.0 c.from_residual.ensures) (then-stays _ _ _ _ _ c.in_err-nest.ensures)
 
-pub returns-then-is_refused-2 : goal.returns-then-is_refused-2
-returns-then-is_refused-2 c =
-    let asked : Read = read_from c.args.s.now (rest_fields c.args.n) c.args.cursor.at c.args.nest in
-    let one : let p = c.read_loops-p.result in let n = c.args.n in asked ≡ read_from c.args.s.now (access_fields first n ++ (access_fields second n ++ access_fields destination n)) p.cursor.at p.nest = then-goes _ _ _ _ _ c.read_loops-p.result c.read_loops-p.ensures (sym c.is_refused.ensures ∙ c.if-is_refused.false) in
-    let m = c.read_loops-p.result.nest in
-    let p = c.read_access-f.result in
-    let h = sym c.is_refused-2.ensures ∙ c.if-is_refused-2.true in
-    same-refusal p.verdict m (with_access first p.access m) p.cursor.at p.cursor.at h
-    ∙ then-stays _ _ _ _ _ (with_side first m p) (side-read _ first _ _ m p c.read_access-f.ensures) h
-    ∙ sym (one)
+pub returns-in_err-first : goal.returns-in_err-first
+returns-in_err-first c =
+    let one = then-goes _ _ _ _ _ c.in_ok-nest.ensures in
+    rw (left _ c.in_err-first.field-0.0 c.from_residual-in_err-first.ensures)
+    (then-stays _ (access_fields first c.args.n) _ _ _ (side-read _ first _ _ c.in_ok-nest.nest (Err c.in_err-first.field-0.0) c.in_err-first.ensures) ∙ sym one)
 
-pub returns-then-is_refused-3 : goal.returns-then-is_refused-3
-returns-then-is_refused-3 c =
-    let asked : Read = read_from c.args.s.now (rest_fields c.args.n) c.args.cursor.at c.args.nest in
-    let one : let p = c.read_loops-p.result in let n = c.args.n in asked ≡ read_from c.args.s.now (access_fields first n ++ (access_fields second n ++ access_fields destination n)) p.cursor.at p.nest = then-goes _ _ _ _ _ c.read_loops-p.result c.read_loops-p.ensures (sym c.is_refused.ensures ∙ c.if-is_refused.false) in
-    let two : let m = c.read_loops-p.result.nest in let p = c.read_access-f.result in let n = c.args.n in asked ≡ read_from c.args.s.now (access_fields second n ++ access_fields destination n) p.cursor.at (with_access first p.access m) = let m = c.read_loops-p.result.nest in
-    let p = c.read_access-f.result in
-    one
-    ∙ then-goes _ _ _ _ _ (with_side first m p) (side-read _ first _ _ m p c.read_access-f.ensures) (sym c.is_refused-2.ensures ∙ c.if-is_refused-2.false) in
-    let e = c in
-    let m = with_access first e.read_access-f.result.access e.read_loops-p.result.nest in
-    let p = c.read_access-g.result in
-    let h = sym c.is_refused-3.ensures ∙ c.if-is_refused-3.true in
-    same-refusal p.verdict e.read_loops-p.result.nest (with_access second p.access m) p.cursor.at p.cursor.at h
-    ∙ then-stays _ _ _ _ _ (with_side second m p) (side-read _ second _ _ m p c.read_access-g.ensures) h
-    ∙ sym (two)
+pub returns-in_err-second : goal.returns-in_err-second
+returns-in_err-second c =
+    let one = then-goes _ _ _ _ _ c.in_ok-nest.ensures in
+    let two = one ∙ then-goes _ (access_fields first c.args.n) _ _ _ (side-read _ first _ _ c.in_ok-nest.nest (Ok (c.in_ok-first.first, c.in_ok-first.c)) c.in_ok-first.ensures) in
+    let m = with_access first c.in_ok-first.first c.in_ok-nest.nest in
+    rw (left _ c.in_err-second.field-0.0 c.from_residual-in_err-second.ensures)
+    (then-stays _ (access_fields second c.args.n) _ _ _ (side-read _ second _ _ m (Err c.in_err-second.field-0.0) c.in_err-second.ensures) ∙ sym two)
+
+pub returns-in_err-destination : goal.returns-in_err-destination
+returns-in_err-destination c =
+    let one = then-goes _ _ _ _ _ c.in_ok-nest.ensures in
+    let two = one ∙ then-goes _ (access_fields first c.args.n) _ _ _ (side-read _ first _ _ c.in_ok-nest.nest (Ok (c.in_ok-first.first, c.in_ok-first.c)) c.in_ok-first.ensures) in
+    let m = with_access first c.in_ok-first.first c.in_ok-nest.nest in
+    let three = two ∙ then-goes _ (access_fields second c.args.n) _ _ _ (side-read _ second _ _ m (Ok (c.in_ok-second.second, c.in_ok-second.c)) c.in_ok-second.ensures) in
+    let k = with_access second c.in_ok-second.second m in
+    rw (left _ c.in_err-destination.field-0.0 c.from_residual-in_err-destination.ensures)
+    (side-read _ destination _ _ k (Err c.in_err-destination.field-0.0) c.in_err-destination.ensures ∙ sym three)
 
 pub returns : goal.returns
 returns c =
-    let asked : Read = read_from c.args.s.now (rest_fields c.args.n) c.args.cursor.at c.args.nest in
-    let one : let p = c.read_loops-p.result in let n = c.args.n in asked ≡ read_from c.args.s.now (access_fields first n ++ (access_fields second n ++ access_fields destination n)) p.cursor.at p.nest = then-goes _ _ _ _ _ c.read_loops-p.result c.read_loops-p.ensures (sym c.is_refused.ensures ∙ c.if-is_refused.false) in
-    let two : let m = c.read_loops-p.result.nest in let p = c.read_access-f.result in let n = c.args.n in asked ≡ read_from c.args.s.now (access_fields second n ++ access_fields destination n) p.cursor.at (with_access first p.access m) = let m = c.read_loops-p.result.nest in
-    let p = c.read_access-f.result in
-    one
-    ∙ then-goes _ _ _ _ _ (with_side first m p) (side-read _ first _ _ m p c.read_access-f.ensures) (sym c.is_refused-2.ensures ∙ c.if-is_refused-2.false) in
-    let three : let a = c.read_access-f.result in let m = with_access first a.access c.read_loops-p.result.nest in let p = c.read_access-g.result in let n = c.args.n in asked ≡ read_from c.args.s.now (access_fields destination n) p.cursor.at (with_access second p.access m) = let a = c.read_access-f.result in
-    let m = with_access first a.access c.read_loops-p.result.nest in
-    let p = c.read_access-g.result in
-    two
-    ∙ then-goes _ _ _ _ _ (with_side second m p) (side-read _ second _ _ m p c.read_access-g.ensures) (sym c.is_refused-3.ensures ∙ c.if-is_refused-3.false) in
-    let e = c in
-    let a = e.read_access-f.result in
-    let b = e.read_access-g.result in
-    let m = with_access second b.access (with_access first a.access c.read_loops-p.result.nest) in
-    rw c.with_accesses.ensures (side-read _ destination _ _ m c.read_access-d.result c.read_access-d.ensures ∙ sym (three))
+    let one = then-goes _ _ _ _ _ c.in_ok-nest.ensures in
+    let two = one ∙ then-goes _ (access_fields first c.args.n) _ _ _ (side-read _ first _ _ c.in_ok-nest.nest (Ok (c.in_ok-first.first, c.in_ok-first.c)) c.in_ok-first.ensures) in
+    let m = with_access first c.in_ok-first.first c.in_ok-nest.nest in
+    let three = two ∙ then-goes _ (access_fields second c.args.n) _ _ _ (side-read _ second _ _ m (Ok (c.in_ok-second.second, c.in_ok-second.c)) c.in_ok-second.ensures) in
+    let k = with_access second c.in_ok-second.second m in
+    side-read _ destination _ _ k (Ok (c.in_ok-destination.destination, c.in_ok-destination.c)) c.in_ok-destination.ensures ∙ sym three

@@ -1,34 +1,17 @@
 -- `read::read_terms` meets its contract: the terms that are left to read, from where the loop stands, give what all of them give.
-use native.Mathlib.Omega.{arith}
-use mathlib.Core.Path.{sym, ◌∙◌}
-use Rattle.codec.proofs.Fields.{signed_back, signed-reach}
-use Rattle.translator.specs.PartLaws.{stop, term-none, term-over, term-next, terms-end}
+use Rattle.std.proofs.Common.{◌≡◌, sym, ◌∙◌, rules, w64, to_z, of_z}
+use Rattle.translator.specs.PartLaws.{term-stays, term-goes, terms-end}
+use Rattle.translator.proofs.Exits.{left}
 use Rattle.translator.proofs.read.read_terms.Goals as goal
 
-pub returns-in_default : goal.returns-in_default
-returns-in_default c =
-    stop _ _ c.stopped.ensures
-    (sym c.loop-o.invariant ∙ term-none _ _ _ _ _ _ c.loop-o-test.true (sym c.signed.ensures ∙ c.in_default.is))
-
-pub returns-then-not-in_reach : goal.returns-then-not-in_reach
-returns-then-not-in_reach c =
-    let z = sym c.signed.ensures ∙ c.in-Whole.is in
-    stop _ _ c.stopped-then-not-in_reach.ensures
-    (sym c.loop-o.invariant
-    ∙ term-over _ _ _ _ _ _ c.loop-o-test.true z (signed-reach _ _ z c.in_reach.ensures ∙ c.if-not-in_reach.true))
-
-pub with_term-m-requires : goal.with_term-m-requires
-with_term-m-requires c =
-    (omega arith, omega arith)
+pub returns-in_err-z : goal.returns-in_err-z
+returns-in_err-z c =
+    rw (left _ c.in_err-z.field-0.0 c.from_residual.ensures) (term-stays _ _ _ _ _ _ c.loop-o-test.true c.in_err-z.ensures ∙ c.loop-o.invariant)
 
 pub loop-o-preserved : goal.loop-o-preserved
 loop-o-preserved c =
-    let z = sym c.signed.ensures ∙ c.in-Whole.is in
-    let e = c.with_term-m.ensures in
-    rw (e, signed_back _ _ z)
-    (sym (term-next _ _ _ _ _ _ c.loop-o-test.true z (signed-reach _ _ z c.in_reach.ensures ∙ c.if-not-in_reach.false))
-    ∙ c.loop-o.invariant)
+    let back : to_z w64 (of_z w64 c.in_ok-z.z) ≡ c.in_ok-z.z = search rules in
+    rw back (sym (term-goes _ _ _ _ _ _ c.loop-o-test.true c.in_ok-z.ensures) ∙ c.loop-o.invariant)
 
 pub returns : goal.returns
-returns c =
-    sym (terms-end _ _ _ _ _ _ c.loop-o-test.false) ∙ c.loop-o.invariant
+returns c = sym (terms-end _ _ _ _ _ _ c.loop-o-test.false) ∙ c.loop-o.invariant

@@ -5,9 +5,9 @@ use Rattle.translator.proofs.write.sheet_page.Goals as goal
 pub returns : goal.returns
 returns c =
     record {
-      blank = c.blank.result;
-      empty = c.blank.ensures;
+      blank = c.new-page.result;
+      empty = c.new-page.ensures;
       written =
           rw
-          (c.put_last.ensures, c.put-four.ensures, c.put_stream-three.ensures, c.put_stream-two.ensures, c.put_stream-one.ensures, sheet-put c.args.m c.blank.result);
+          (c.put_last.ensures, c.put.ensures, c.put_stream-3.ensures, c.put_stream-2.ensures, c.put_stream.ensures, sheet-put c.args.m.now c.new-page.result);
     }

@@ -1,4 +1,4 @@
-use Rattle.std.proofs.Common.{◌≡◌, ℕ, ◌+◌, List, ◌++◌, take, drop, sym, ap, ◌∙◌, subst, arith, rules}
+use Rattle.std.proofs.Common.{◌≡◌, ℕ, ◌+◌, List, ◌++◌, take, drop, sym, ap, ◌∙◌, subst, rules}
 use lib.Seq.{take-add}
 use Rattle.std.specs.Prelude.{Option}
 use Rattle.std.specs.Io.KnownBytes.{Consumes}
@@ -10,16 +10,6 @@ read_more : (a b c : Option (List ℕ)) (old new : List ℕ) (count got : ℕ) �
     → Consumes b c (take got (drop count new)) → Consumes a c (take (count + got) new)
 read_more a b c old new count got front before read =
     subst (Consumes a c) (ap (λ l. l ++ take got (drop count new)) (sym front) ∙ sym (take-add count got new)) (Consumes-trans a b c _ _ before read)
-
-pub returns-then-got-eq0-clause-bytes : goal.returns-then-got-eq0-clause-bytes
-returns-then-got-eq0-clause-bytes g c =
-    let read = c.in-Ok.ensures in
-    let count = c.loop-count.count in
-    let none : count + c.in-Ok.got ≡ count = omega arith in
-    subst (Consumes _ _) (ap (λ n. take n c.read_on.new.out) none) (read_more _ _ _ _ _ count c.in-Ok.got read.front c.loop-count.invariant.2 read.ok)
-
-pub returns-then-got-eq0-clause-end : goal.returns-then-got-eq0-clause-end
-returns-then-got-eq0-clause-end g c e = c.in-Ok.ensures.end c.if-got-eq0.true c.loop-count-test.true
 
 pub loop-count-preserved : goal.loop-count-preserved
 loop-count-preserved g c =

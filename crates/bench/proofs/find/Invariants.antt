@@ -1,9 +1,0 @@
--- The place stays between its start and the length.
-use Rattle.std.proofs.Common.{◌-◌, ◌≤◌, length}
-use Rattle.bench.proofs.find.Given as goal
-
-abbrev pub invariant-loop-at : goal.invariant-loop-at
-invariant-loop-at l = (l.from ≤ l.at) × (l.at ≤ length l.s)
-
-abbrev pub decreases-loop-at : goal.decreases-loop-at
-decreases-loop-at l = length l.s - l.at
