@@ -100,7 +100,9 @@ fn number(digits: &[u8]) -> Option<u64> {
 }
 
 // The decimal numbers of a field, put into a room.
-fn numbers<'a>(text: &[u8], room: &'a mut [u64]) -> Option<&'a [u64]> {
+fn numbers<'a>(text: &[u8], room: &'a mut [u64]) -> Option<&'a [u64]>
+    ensures { IfSome result (λ r. length r.now ≤ length room.old) }
+{
     let mut count = 0;
     for digits in text
         .split(|b| *b == b' ')
@@ -114,7 +116,9 @@ fn numbers<'a>(text: &[u8], room: &'a mut [u64]) -> Option<&'a [u64]> {
 }
 
 // The bytes of a field, put into a room: pairs of hexadecimal digits, with spaces and bars between them.
-fn bytes<'a>(text: &[u8], room: &'a mut [u8]) -> Option<&'a [u8]> {
+fn bytes<'a>(text: &[u8], room: &'a mut [u8]) -> Option<&'a [u8]>
+    ensures { IfSome result (λ r. length r.now ≤ length room.old) }
+{
     let mut count = 0;
     for digits in text.split(|b| *b == b' ' || *b == b'|') {
         for pair in digits.chunks(2) {

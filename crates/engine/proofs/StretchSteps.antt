@@ -1,5 +1,5 @@
 -- What is done at a list of addresses: one address more, and a whole row.
-use Rattle.std.proofs.Common.{◌≡◌, ℕ, zero, suc, ◌+◌, ◌-◌, ◌*◌, ◌<◌, ◌≤◌, Bool, true, false, cond, ◌&&◌, leb, List, [], ◌∷◌, ◌++◌, map, length, get_or, take, drop, ℤ, pos, negsuc, ◌+ℤ◌, ◌*ℤ◌, neg_ℤ, nat_abs, sym, refl, ap, ◌∙◌, suc-mul, mul_comm, mul-le-mul_left, add-one, arith, length-take-le, take_all, take-suc, le-leb, leb-true}
+use Rattle.std.proofs.Common.{◌≡◌, ℕ, zero, suc, ◌+◌, ◌-◌, ◌*◌, ◌<◌, ◌≤◌, Bool, true, false, cond, ◌&&◌, leb, List, [], ◌∷◌, ◌++◌, map, length, get_or, take, drop, set, ℤ, pos, negsuc, ◌+ℤ◌, ◌*ℤ◌, neg_ℤ, nat_abs, sym, refl, ap, ◌∙◌, suc-mul, mul_comm, mul-le-mul_left, add-one, arith, length-drop, length-take-le, get_or-drop, take_all, take-suc, le-leb, leb-true}
 use native.Mathlib.Decide.{dec_lt}
 use lib.Seq.{sets}
 use lib.IntN.{one, *ℤ-one, *ℤ-zero, +ℤ_idr, +ℤ_assoc}
@@ -233,6 +233,17 @@ fetched-row : (memory : List ℕ) (w x n : ℕ) → fetched_at memory w (progres
 unfolding progression lanes_from
 fetched-row memory w x zero = refl
 fetched-row memory w x (suc n) = ap (λ l. value_at memory x w ∷ l) (fetched-row memory w (x + w) n)
+
+-- one byte more is copied
+pub copied_more : (from to : List ℕ) (a b k : ℕ) → a + k < length from → set (sets to b (take k (drop a from))) (b + k) (get_or from (a + k) 0) ≡ sets to b (take (k + 1) (drop a from))
+copied_more from to a b k h =
+    let l = drop a from in
+    let m : length l ≡ length from - a = length-drop a from in
+    sym
+    (rw (add-one k, take-suc l k 0 (omega arith))
+    (sets-append to b (take k l) (get_or l k 0 ∷ [])
+    ∙ ap (λ i. set (sets to b (take k l)) (b + i) (get_or l k 0)) (length-take-le k l (omega arith))
+    ∙ ap (set (sets to b (take k l)) (b + k)) (get_or-drop a from k 0)))
 
 stored_row : (memory : List ℕ) (w x : ℕ) (xs : List ℕ) → stored_at memory w (progression (pos x) (pos w) (length xs)) xs ≡ sets memory x (joined w xs)
 unfolding progression stored_at joined

@@ -1,7 +1,7 @@
 -- What is refused, and nothing else: the proof.
 --
 --   unrefused    "not refused" exactly if the plain conditions hold; refused for the first thing wanted that is lacking; a refused one alters nothing
-use Rattle.engine.specs.Configure.{configured}
+use Rattle.engine.specs.GoodLaws.{configured-kept}
 use Rattle.engine.specs.AllowedLaws.{fits-allowed, accepts-clear, loops-on}
 use Rattle.engine.specs.StepLaws.{step-refused}
 use Rattle.engine.specs.CalculatesLaws.{calculates-clear}
@@ -10,7 +10,6 @@ use Rattle.engine.specs.Promise1.{Unrefused}
 
 -- what is refused, and nothing else
 pub unrefused : Unrefused
-unfolding configured
 unrefused = record {
   lengths = fits-allowed;
   operation = accepts-clear;
@@ -20,6 +19,6 @@ unrefused = record {
   calculation-refused = calculation-refused;
   flag-refused = flag-refused;
   end_refused = end-of-stream-refused;
-  operation-kept = λ o m x e. rw e;
+  operation-kept = configured-kept;
   calculation-kept = step-refused;
 }

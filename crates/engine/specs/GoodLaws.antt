@@ -7,7 +7,7 @@
 --   opened-good, dimensioned-good, modified-good, moved-good, ended-good, applied-good
 --                                      a good register after an operation
 --   in-machine, put_same, put_other, put-good   a register put back
---   configured-put, configured-by, configured-own, configured-other, configured-good   the machine after an operation
+--   put-back, configured-put, configured-kept, configured-by, configured-own, configured-other, configured-good   the machine after an operation
 --   width-most            what the code takes for granted
 use Rattle.std.specs.Prelude.{◌≡◌, ℕ, zero, suc, ◌+◌, ◌^◌, ◌<◌, ◌≤◌, Bool, true, false, cond, ◌≢◌, List, [], ◌∷◌, length, replicate, ◌==◌, nat_le, nat_lt, slice_index_or, slice_set, unsigned_abs, refl, Ok, Err, Result, Option, None}
 use Rattle.std.proofs.Common.{sym, ◌∙◌, ap, subst, ⊎_elim, arith, length-set, get_or-set_same, get_or-set_other, pow_mono, pow_pos, leb-true, leb-false, ltb-true, ltb-false}
@@ -375,9 +375,18 @@ configured-put o m = go (why_not o m)
     go (Ok _) = refl
     go (Err x) = ap (λ l. record { registers = l }) (sym (set-get_or m.registers (register_of o) no_register))
 
--- what code that finds the register was told of the operation there: why it is refused, or what to put back
+-- a register put back as it was
+pub put-back : (m : Machine) (i : ℕ) → put m i (reg m i) ≡ m
+put-back m i = ap (λ l. record { registers = l }) (set-get_or m.registers i no_register)
+
+-- a refused one leaves all as it was
+pub configured-kept : (o : Operation) (m : Machine) (x : Refusal) → why_not o m ≡ Err x → configured o m ≡ m
+unfolding configured
+configured-kept o m x e = rw e
+
+-- what code that finds the register was told of the operation there: why it is refused, and the register stays, or what to put back
 pub configured-by : (o : Operation) (m : Machine) (i : ℕ) (a : Result Register Refusal) → i ≡ register_of o → a ≡ or_refusal (first_of (checks_for o (reg m i))) (applied o (reg m i))
-    → ((x : Refusal) → a ≡ Err x → why_not o m ≡ Err x) × ((r : Register) → a ≡ Ok r → (why_not o m ≡ Ok tt) × (put m i r ≡ configured o m))
+    → ((x : Refusal) → a ≡ Err x → (why_not o m ≡ Err x) × (put m i (reg m i) ≡ configured o m)) × ((r : Register) → a ≡ Ok r → (why_not o m ≡ Ok tt) × (put m i r ≡ configured o m))
 unfolding why_not configured
 configured-by o m i a e p = go (first_of (checks_for o (reg m (register_of o)))) refl
   where
@@ -385,7 +394,7 @@ configured-by o m i a e p = go (first_of (checks_for o (reg m (register_of o))))
     told = p ∙ (λ j. or_refusal (first_of (checks_for o (reg m (e j)))) (applied o (reg m (e j))))
 
     go : (w : Why) → first_of (checks_for o (reg m (register_of o))) ≡ w
-        → ((x : Refusal) → a ≡ Err x → first_of (checks_for o (reg m (register_of o))) ≡ Err x)
+        → ((x : Refusal) → a ≡ Err x → (first_of (checks_for o (reg m (register_of o))) ≡ Err x) × (put m i (reg m i) ≡ unless_because (first_of (checks_for o (reg m (register_of o)))) (put m (register_of o) (applied o (reg m (register_of o)))) m))
         × ((r : Register) → a ≡ Ok r → (first_of (checks_for o (reg m (register_of o))) ≡ Ok tt) × (put m i r ≡ unless_because (first_of (checks_for o (reg m (register_of o)))) (put m (register_of o) (applied o (reg m (register_of o)))) m))
     go (Ok u) f =
         let k : a ≡ Ok (applied o (reg m (register_of o))) = rw f at told in (
@@ -394,7 +403,13 @@ configured-by o m i a e p = go (first_of (checks_for o (reg m (register_of o))))
               let own : r ≡ applied o (reg m (register_of o)) = cc in
               (f, (λ j. put m (e j) (own j)) ∙ sym (ap (λ w. unless_because w (put m (register_of o) (applied o (reg m (register_of o)))) m) f)),
         )
-    go (Err y) f = let k : a ≡ Err y = rw f at told in (λ x g. let same : y ≡ x = cc in f ∙ ap Err same, λ r g. absurd cc)
+    go (Err y) f =
+        let k : a ≡ Err y = rw f at told in (
+          λ x g.
+              let same : y ≡ x = cc in
+              (f ∙ ap Err same, put-back m i ∙ sym (ap (λ w. unless_because w (put m (register_of o) (applied o (reg m (register_of o)))) m) f)),
+          λ r g. absurd cc,
+        )
 
 -- its own register afterwards
 pub configured-own : (o : Operation) (m : Machine) → register_of o < length m.registers

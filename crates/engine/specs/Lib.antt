@@ -109,3 +109,4 @@ pub mod Calculations
 pub mod Layouts
 pub mod LayoutLaws
 pub mod PackedLaws
+pub mod RowLaws

@@ -4,11 +4,11 @@ ghost use Rattle.codec.specs.Headers.{coupling_in_range};
 ghost use Rattle.codec.specs.Operations.{operation_in_range};
 ghost use Rattle.engine.specs.Checks.{first_of};
 ghost use Rattle.engine.specs.Registers.{shape_of};
-ghost use Rattle.engine.specs.Configure.{open_checks, dimension_checks, modifier_checks, uncovered, end_checks, opened, patterned, dimensioned, modified, owned, ended, register_of, checks_for, applied, or_refusal};
-ghost use Rattle.engine.specs.Good.{Ranged, Good};
+ghost use Rattle.engine.specs.Configure.{open_checks, dimension_checks, modifier_checks, uncovered, end_checks, opened, patterned, dimensioned, modified, owned, ended, register_of, checks_for, applied, or_refusal, why_not, configured};
+ghost use Rattle.engine.specs.Good.{Ranged, Good, AllGood};
 
 use crate::plan::ended;
-use crate::register::{Register, State, fresh};
+use crate::register::{Machine, Register, State, fresh};
 use crate::rules::{low_or_high, product_over};
 use crate::stream;
 use codec::amounts::Bytes;
@@ -204,4 +204,18 @@ pub fn register_of(o: Operation) -> usize
         Operation::End(i) => i,
         Operation::Run(i, _) => i,
     }
+}
+
+// An operation on the register that it names: "A refused operation .. alters nothing".
+pub(crate) fn configure(o: Operation, machine: &mut Machine) -> Result<(), Refusal>
+    requires { ((vl : ℕ) × AllGood vl machine.old) × (operation_in_range o ≡ true) }
+    ensures why { result ≡ why_not o machine.old }
+    ensures after { machine.new ≡ configured o machine.old }
+{
+    let i = register_of(o);
+    match apply(o, machine.registers[i]) {
+        Ok(register) => machine.registers[i] = register,
+        Err(refusal) => return Err(refusal),
+    }
+    Ok(())
 }

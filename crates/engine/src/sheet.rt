@@ -4,7 +4,7 @@ ghost use Rattle.engine.specs.Good.{AllGood};
 ghost use Rattle.engine.specs.Sheets.{body_at, names, is_loop_register, ending_of, operations_from};
 ghost use Rattle.engine.specs.Bodies.{calculations_of, run_is, prepared_is};
 
-use crate::configure::{apply, register_of};
+use crate::configure::configure;
 use crate::question::has_stream;
 use crate::register::Machine;
 use crate::run::Placed;
@@ -105,12 +105,10 @@ pub(crate) fn operations(
             let run = run_ending(s, place, register, n as usize, next.at, machine)?;
             return Ok(Some(run));
         }
-        let i = register_of(o);
-        match apply(o, machine.registers[i]) {
-            Ok(register) => machine.registers[i] = register,
+        match configure(o, machine) {
+            Ok(()) => at = next.at,
             Err(refusal) => return Err(Refused { refusal, place }),
         }
-        at = next.at;
     }
     Ok(None)
 }

@@ -64,7 +64,10 @@ fn copy(from: &[u8], a: usize, n: usize, to: &mut [u8], b: usize)
     requires { (a + n ≤ length from.now) × (b + n ≤ length to.old) }
     ensures { (to.new ≡ sets to.old b (take n (drop a from.now))) × (0 < n → Bytewise from.now) }
 {
-    to[b..b + n].copy_from_slice(&from[a..a + n]);
+    // Byte by byte, so that the library needs no `memmove` of whoever links it.
+    for k in 0..n {
+        to[b + k] = from[a + k];
+    }
 }
 
 // Whether elements a step apart lie side by side.

@@ -126,8 +126,8 @@ impl Numbers<'_> {
 }
 
 impl Count {
-    // "A loop's count is its number plus each term times that outer index."
-    fn at(&self, index: &[u64; 7]) -> u64 {
+    // "A loop's count is its number plus each term times that outer index." An index is given for each loop.
+    fn at(&self, index: &[u64]) -> u64 {
         self.terms.iter().zip(index).fold(
             self.number,
             |count, (term, outer)| moved(count, *term, *outer),
@@ -136,8 +136,8 @@ impl Count {
 }
 
 impl Access {
-    // The place of an element: the base, and each stride times its index, in elements.
-    fn at(&self, index: &[u64; 7], width: u64) -> Bytes {
+    // The place of an element: the base, and each stride times its index, in elements. An index is given for each loop.
+    fn at(&self, index: &[u64], width: u64) -> Bytes {
         self.strides.iter().zip(index).fold(
             self.base,
             |place, (stride, i)| moved_on(place, *stride, *i, width),
@@ -239,6 +239,7 @@ impl Nest {
     // One visit: reads both sources, operates, writes the destination. None if one of them lies outside memory, and then nothing is done.
     fn visit(&self, index: &[u64; 7], memory: &mut [u8]) -> Option<()> {
         let width = self.width;
+        let index = &index[..self.loops];
         let a = element(memory, self.first.at(index, width), width)?;
         let b = element(memory, self.second.at(index, width), width)?;
         let destination = self.destination.at(index, width);
@@ -270,7 +271,7 @@ impl Nest {
             return self.visited(&index, memory, tour);
         }
         let this = d - 1;
-        for i in 0..self.counts[this].at(&index) {
+        for i in 0..self.counts[this].at(&index[..self.loops]) {
             index[this] = i;
             tour = self.nested(this, index, memory, tour);
         }

@@ -1,5 +1,6 @@
 mod Exits
 mod Chosen
+mod Copies
 pub mod Translating
 pub mod Nesting
 pub mod Visiting

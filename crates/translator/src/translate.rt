@@ -1,13 +1,24 @@
 // A nest translated: its sheet, written into a lent room.
-ghost use Rattle.std.specs.Prelude.{◌≡◌, length};
+ghost use Rattle.std.specs.Prelude.{◌≡◌, ◌≤◌, length, take};
+ghost use Rattle.std.proofs.lemmas.List.Edits.{sets};
 ghost use Rattle.translator.specs.Reading.{nest, nest_at};
 ghost use Rattle.translator.specs.Acceptance.{Accepted};
 ghost use Rattle.translator.specs.Translation.{translated, room_after};
 
 use crate::nest::Nest;
 use crate::read::read_nest;
-use crate::write::sheet_page;
+use crate::write::{Page, sheet_page};
 use codec::refusal::{Refusal, Refused};
+
+// Copies what is written on a page into a room that has place for it.
+fn copy(page: &Page, room: &mut [u8])
+    requires { (page.now.at ≤ length room.old) × (page.now.at ≤ 1024) }
+    ensures { room.new ≡ sets room.old 0 (take page.now.at page.now.bytes) }
+{
+    for k in 0..page.at {
+        room[k] = page.bytes[k];
+    }
+}
 
 // Writes the sheet of an accepted nest, if the room is long enough.
 fn place(m: &Nest, room: &mut [u8]) -> Result<usize, Refused>
@@ -22,7 +33,7 @@ fn place(m: &Nest, room: &mut [u8]) -> Result<usize, Refused>
             place: 0,
         });
     }
-    room[..len].copy_from_slice(&page.bytes[..len]);
+    copy(&page, room);
     Ok(len)
 }
 

@@ -6,7 +6,7 @@ mod failure;
 pub mod file;
 pub mod memory;
 pub mod number;
-mod operation;
+pub mod operation;
 mod outside;
 pub mod refusal;
 pub mod register;

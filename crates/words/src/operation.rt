@@ -1,5 +1,5 @@
 // Operations and calculations in words.
-use crate::text::Counted;
+use crate::text::{Counted, Signed};
 use codec::amounts::Bytes;
 use codec::header::{Header, Kind};
 use codec::operation::{
@@ -9,9 +9,9 @@ use std::fmt;
 
 // How many dimensions and modifiers a register has been given since it was opened.
 #[derive(Clone, Copy, Default)]
-pub(crate) struct Given {
-    dims: u64,
-    mods: u64,
+pub struct Given {
+    pub dims: u64,
+    pub mods: u64,
 }
 
 impl Given {
@@ -108,10 +108,10 @@ impl fmt::Display for Owner {
 
 // An operation in words, by what its register has been given, and whether that is the one opened last, which is then not named.
 #[derive(Clone, Copy)]
-pub(crate) struct Described {
-    pub(crate) operation: Operation,
-    pub(crate) given: Given,
-    pub(crate) here: bool,
+pub struct Described {
+    pub operation: Operation,
+    pub given: Given,
+    pub here: bool,
 }
 
 impl Described {
@@ -122,7 +122,7 @@ impl Described {
             h.register,
             kind(h.kind),
             letter(h.width.bytes()),
-            base.0,
+            Signed(base.0),
             Coupled(h.coupling)
         )
     }
@@ -133,9 +133,9 @@ impl Described {
             "  dimension {}{}: offset {}, size {}, stride {}",
             self.given.dims.wrapping_add(1),
             self.of(d.register),
-            d.offset.0,
+            Signed(d.offset.0),
             d.size,
-            d.stride.0
+            Signed(d.stride.0)
         )
     }
 
@@ -188,7 +188,7 @@ fn fold(fold: Fold) -> &'static str {
 
 // A calculation in words.
 #[derive(Clone, Copy)]
-pub(crate) struct Calculated(pub(crate) Calculation);
+pub struct Calculated(pub Calculation);
 
 impl fmt::Display for Calculated {
     fn fmt<W: fmt::Write>(&self, f: &mut fmt::Formatter<W>) -> fmt::Result {

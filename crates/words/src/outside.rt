@@ -4,6 +4,7 @@ ghost use Rattle.engine.specs.Registers.{reg};
 ghost use Rattle.engine.specs.Blame.{operand_in};
 ghost use Rattle.words.specs.Outside.{lane_at, address_told};
 
+use crate::text::Signed;
 use codec::amounts::Bytes;
 use codec::number::Cursor;
 use codec::operation::{Calculation, decode_calculation};
@@ -70,7 +71,7 @@ impl fmt::Display for AtAddress {
     fn fmt<W: fmt::Write>(&self, f: &mut fmt::Formatter<W>) -> fmt::Result {
         match self.0 {
             None => Ok(()),
-            Some(a) => write!(f, ", at address {},", a.0),
+            Some(a) => write!(f, ", at address {},", Signed(a.0)),
         }
     }
 }

@@ -29,7 +29,7 @@ fn state(s: State) -> &'static str {
     }
 }
 
-// The values of the valid lanes, each with its highest byte first.
+// The values of the valid lanes, each with its highest byte first. A byte that a register has no room for is 0: a caller may give any machine.
 #[derive(Clone, Copy)]
 struct Values<'a> {
     lanes: &'a [u8],
@@ -39,12 +39,18 @@ struct Values<'a> {
 
 impl fmt::Display for Values<'_> {
     fn fmt<W: fmt::Write>(&self, f: &mut fmt::Formatter<W>) -> fmt::Result {
-        let width = self.width.max(1) as usize;
-        for lane in self.lanes.chunks_exact(width).take(self.valid as usize) {
+        let mut at = 0usize;
+        for _ in 0..self.valid {
             f.write_str(" ")?;
-            for byte in lane.iter().rev() {
+            for k in (0..self.width).rev() {
+                let byte = self
+                    .lanes
+                    .get(at.wrapping_add(k as usize))
+                    .copied()
+                    .unwrap_or(0);
                 write!(f, "{byte:02x}")?;
             }
+            at = at.wrapping_add(self.width as usize);
         }
         Ok(())
     }

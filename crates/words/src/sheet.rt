@@ -1,6 +1,6 @@
 // The lines of a sheet: each operation and calculation with its place, its bytes and its words.
 use crate::operation::{Calculated, Described, Given};
-use crate::text::Counted;
+use crate::text::{Counted, Signed};
 use codec::number::Cursor;
 use codec::operation::{Operation, decode, decode_calculation};
 use engine::configure::register_of;
@@ -65,7 +65,8 @@ impl fmt::Display for Shape {
         write!(
             f,
             "{elements}, first at {}, last at {}",
-            self.0.first.0, self.0.last.0
+            Signed(self.0.first.0),
+            Signed(self.0.last.0)
         )
     }
 }

@@ -1,5 +1,6 @@
 // Text on standard output, or on what else prints, and the words that several files share.
 ghost use Rattle.std.specs.Prelude.{◌≡◌, Some, unsigned_abs};
+ghost use Rattle.std.specs.Fmt.{signed_decimal};
 ghost use Rattle.words.specs.Texts.{counted};
 
 use std::fmt;
@@ -9,11 +10,28 @@ pub fn say(out: &impl Print, text: &[u8]) {
     let _ = out.write_all(text);
 }
 
-// A number without its sign: README promises it by this name; the library's `unsigned_abs` is the same.
+// A number without its sign.
 pub fn magnitude(z: i64) -> u64
     ensures { result ≡ unsigned_abs z }
 {
     z.unsigned_abs()
+}
+
+// A number, with a minus sign if it is below 0.
+#[derive(Clone, Copy)]
+pub struct Signed(pub i64);
+
+impl fmt::Display for Signed {
+    ghost output = { λ z. Some (signed_decimal z.0) };
+
+    fn fmt<W: fmt::Write>(&self, f: &mut fmt::Formatter<W>) -> fmt::Result {
+        let Signed(z) = *self;
+        if z < 0 {
+            write!(f, "-{}", magnitude(z))
+        } else {
+            write!(f, "{}", magnitude(z))
+        }
+    }
 }
 
 // A number and the word for it: one of a thing, or several.

@@ -1,6 +1,6 @@
 -- `sheet::operations` meets its contract: what is left of the sheet stays what there was to do.
 use Rattle.std.proofs.Common.{◌≡◌, ℕ, ◌+◌, ◌-◌, ◌<◌, true, List, sym, ap, ◌∙◌, subst, arith}
-use Rattle.std.specs.Prelude.{Ok}
+use Rattle.std.specs.Prelude.{Ok, Err}
 use Rattle.std.proofs.lemmas.Result.{err_from_is_err_and}
 use Rattle.codec.specs.NumberLaws.{AreBytes}
 use Rattle.codec.specs.Operations.{Decoded, operation_in_range, operation_at}
@@ -8,11 +8,10 @@ use Rattle.codec.specs.OperationLaws.{operation-read}
 use Rattle.codec.specs.RangeLaws.{run-range}
 use Rattle.codec.specs.declared.number.Cursor.{Cursor}
 use Rattle.codec.specs.declared.operation.Operation.{Operation}
-use Rattle.engine.specs.Registers.{put}
 use Rattle.engine.specs.Configure.{why_not, configured, register_of}
 use Rattle.engine.specs.Good.{AllGood}
-use Rattle.engine.specs.GoodLaws.{in-machine, configured-by, configured-good}
-use Rattle.engine.specs.Sheets.{operations_from}
+use Rattle.engine.specs.GoodLaws.{in-machine, configured-kept, configured-good}
+use Rattle.engine.specs.Sheets.{refused, operations_from}
 use Rattle.engine.proofs.SheetSteps.{configures, ops-none, ops-out, ops-refused, ops-run, ops-because, ops-next}
 use Rattle.engine.proofs.sheet.operations.Goals as goal
 
@@ -60,49 +59,27 @@ returns-in-Run c =
     ∙ sym (ops-run _ _ l.at l.machine (omega (arith, c.loop-test.true)) c.if-s-at.false c.in_ok-o.next _ _ (sym c.decode.ensures ∙ c.in_ok-o.was ∙ ap (λ o. Ok (o, c.in_ok-o.next)) c.in-Run.is))
     ∙ l.invariant.1
 
-pub offset_bounds-machine-i : goal.offset_bounds-machine-i
-offset_bounds-machine-i c =
-    let o = c.in_ok-o in
-    omega (arith, machine_has c.args.s.now c.loop.at c.decode.result o.o o.next c.register_of-i.result (λ i. (c.type_inv.s i).fits) c.decode.ensures o.was c.register_of-i.ensures)
-
-pub bounds-machine-i : goal.bounds-machine-i
-bounds-machine-i c =
-    let o = c.in_ok-o in
-    machine_has c.args.s.now c.loop.at c.decode.result o.o o.next c.register_of-i.result (λ i. (c.type_inv.s i).fits) c.decode.ensures o.was c.register_of-i.ensures
-
-pub apply-requires : goal.apply-requires
-apply-requires c =
+pub configure-requires : goal.configure-requires
+configure-requires c =
     let l = c.loop in
     let o = c.in_ok-o in
-    let b : AreBytes c.args.s.now = λ i. (c.type_inv.s i).fits in
-    let known = machine_has c.args.s.now l.at c.decode.result o.o o.next c.register_of-i.result b c.decode.ensures o.was c.register_of-i.ensures in
-    ((l.invariant.0.0, l.invariant.0.1.good _ known), read_in_range c.args.s.now l.at c.decode.result o.o o.next b c.decode.ensures o.was)
+    (l.invariant.0, read_in_range c.args.s.now l.at c.decode.result o.o o.next (λ i. (c.type_inv.s i).fits) c.decode.ensures o.was)
 
 pub returns-in-Err : goal.returns-in-Err
 returns-in-Err c =
     let l = c.loop in
     let o = c.in_ok-o.o in
-    sym (ops-because _ _ l.at l.machine (omega (arith, c.loop-test.true)) c.if-s-at.false _ _ _ (sym c.decode.ensures ∙ c.in_ok-o.was) (configures o c.in_default.not-Run)
-    ((configured-by _ l.machine _ _ c.register_of-i.ensures c.apply.ensures).0 _ c.in-Err.is))
+    let why : why_not o l.machine ≡ Err c.in-Err.refusal = sym c.configure.ensures.why ∙ c.in-Err.is in
+    ap (λ m. record { machine = m; ending = refused c.in-Err.refusal l.at }) (c.configure.ensures.after ∙ configured-kept o l.machine _ why)
+    ∙ sym (ops-because _ _ l.at l.machine (omega (arith, c.loop-test.true)) c.if-s-at.false _ _ _ (sym c.decode.ensures ∙ c.in_ok-o.was) (configures o c.in_default.not-Run) why)
     ∙ l.invariant.1
-
-pub offset_bounds-machine-i-in-Ok : goal.offset_bounds-machine-i-in-Ok
-offset_bounds-machine-i-in-Ok c =
-    let o = c.in_ok-o in
-    omega (arith, machine_has c.args.s.now c.loop.at c.decode.result o.o o.next c.register_of-i.result (λ i. (c.type_inv.s i).fits) c.decode.ensures o.was c.register_of-i.ensures)
-
-pub bounds-machine-i-in-Ok : goal.bounds-machine-i-in-Ok
-bounds-machine-i-in-Ok c =
-    let o = c.in_ok-o in
-    machine_has c.args.s.now c.loop.at c.decode.result o.o o.next c.register_of-i.result (λ i. (c.type_inv.s i).fits) c.decode.ensures o.was c.register_of-i.ensures
 
 pub loop-preserved : goal.loop-preserved
 loop-preserved c =
     let l = c.loop in
     let o = c.in_ok-o.o in
     let in-range = read_in_range c.args.s.now l.at c.decode.result o c.in_ok-o.next (λ i. (c.type_inv.s i).fits) c.decode.ensures c.in_ok-o.was in
-    let on-machine : (why_not o l.machine ≡ Ok tt) × (put l.machine c.register_of-i.result c.in-Ok.register ≡ configured o l.machine) =
-    (configured-by _ l.machine _ _ c.register_of-i.ensures c.apply.ensures).1 _ c.in-Ok.is in
+    let on-machine : (why_not o l.machine ≡ Ok tt) × (c.configure.new.machine ≡ configured o l.machine) = (sym c.configure.ensures.why ∙ c.in-Ok.is, c.configure.ensures.after) in
     let fewer : c.args.most - (l.counter + 1) ≡ c.args.most - l.counter - 1 = omega arith in (
       (l.invariant.0.0, subst (AllGood l.invariant.0.0) (sym on-machine.1) (configured-good l.invariant.0.0 _ l.machine l.invariant.0.1 in-range)),
       (λ i. operations_from (fewer i) c.args.s.now c.in_ok-o.next.at (on-machine.1 i))
